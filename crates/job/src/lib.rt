@@ -1,0 +1,3 @@
+// A job of the program `card`: its bytes in, its card or its refusal out.
+pub mod card;
+pub mod parts;
