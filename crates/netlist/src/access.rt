@@ -1,8 +1,8 @@
 // What can be asked of a netlist.
 ghost use mathlib.Core.Path.{_≡_};
-ghost use Prim.Native.Nat.{ℕ, _<_, _≤_};
-ghost use lib.ListN.{length, getD};
-ghost use Rattle.netlist.specs.Circuits.{inputs, nets, InRange};
+ghost use Prim.Native.Nat.{_<_, _≤_};
+ghost use lib.ListN.{getD};
+ghost use Rattle.netlist.specs.Circuits.{inputs, nets, WellFormed};
 ghost use Rattle.netlist.specs.Netlists.{circuit, DriverIs};
 use crate::circuit::Netlist;
 use crate::gate::Gate;
@@ -30,10 +30,11 @@ impl Netlist {
         usize::from(self.words) * usize::from(self.width)
     }
 
-    // The number of nets that are driven, at most 256.
+    // The number of nets that are driven, at most 256. Every netlist is well formed.
     pub fn nets(&self) -> usize
         ensures number { λ r. ⌜ r ≡ nets (circuit (now (self .entry))) ⌝ }
         ensures few { λ r. ⌜ r ≤ 256 ⌝ }
+        ensures formed { λ _. ⌜ WellFormed (circuit (now (self .entry))) ⌝ }
     {
         self.inputs() + self.count
     }

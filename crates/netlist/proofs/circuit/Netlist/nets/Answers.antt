@@ -11,4 +11,4 @@ pub returns : need.returns
 returns c =
     let all = all-nets (c .args .self .now) in
     let few = few-nets _ (formed (c .args .self .now)) in
-    record { number = omega (arith, c .inputs .ensures); few = omega (arith, c .inputs .ensures) }
+    record { number = omega (arith, c .inputs .ensures); few = omega (arith, c .inputs .ensures); formed = formed (c .args .self .now) }
