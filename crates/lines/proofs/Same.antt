@@ -23,7 +23,7 @@ same-numbers (v ∷ vs) (w ∷ ws) r t n a b e =
     let f = append-cancel-left (32 ∷ []) _ _ e in
     let g = sym (append-assoc (numeral v) (numbers vs) (10 ∷ r)) ∙ f ∙ append-assoc (numeral w) (numbers ws) (10 ∷ t) in
     let one = same-number {s = numeral v ++ (numbers vs ++ (10 ∷ r))} {v = v} {w = w} {r = numbers vs ++ (10 ∷ r)} {t = numbers ws ++ (10 ∷ t)}
-      (record { small = a .0; bytes = refl; ends = tail-ends vs r }) (record { small = b .0; bytes = g; ends = tail-ends ws t }) in
+    (record { small = a .0; bytes = refl; ends = tail-ends vs r }) (record { small = b .0; bytes = g; ends = tail-ends ws t }) in
     let rest = same-numbers vs ws r t (omega arith) (a .1) (b .1) (one .1) in
     ((λ i. one .0 i ∷ rest .0 i), rest .1)
 

@@ -27,19 +27,19 @@ driven-prop (g ∷ gs) d x y = λ i. (le-prop (x .0) (y .0) i, below-prop d (net
 
 range-prop : (n k : ℕ) → IsProp (InRange n k)
 range-prop n k x y = λ i. record {
-    some-word = le-prop (x .some-word) (y .some-word) i;
-    few-words = le-prop (x .few-words) (y .few-words) i;
-    some-bits = le-prop (x .some-bits) (y .some-bits) i;
-    few-bits = le-prop (x .few-bits) (y .few-bits) i;
-  }
+  some-word = le-prop (x .some-word) (y .some-word) i;
+  few-words = le-prop (x .few-words) (y .few-words) i;
+  some-bits = le-prop (x .some-bits) (y .some-bits) i;
+  few-bits = le-prop (x .few-bits) (y .few-bits) i;
+}
 
 formed-prop : (c : Circuit) → IsProp (WellFormed c)
 formed-prop c x y = λ i. record {
-    range = range-prop (c .words) (c .width) (x .range) (y .range) i;
-    driven = driven-prop (c .gates) (inputs c) (x .driven) (y .driven) i;
-    as-wide = ℕ-set _ _ (x .as-wide) (y .as-wide) i;
-    outputs = below-prop (nets c) (c .outs) (x .outputs) (y .outputs) i;
-  }
+  range = range-prop (c .words) (c .width) (x .range) (y .range) i;
+  driven = driven-prop (c .gates) (inputs c) (x .driven) (y .driven) i;
+  as-wide = ℕ-set _ _ (x .as-wide) (y .as-wide) i;
+  outputs = below-prop (nets c) (c .outs) (x .outputs) (y .outputs) i;
+}
 
 pub formed : (t : Netlist) → WellFormed (circuit t)
 formed t = ∥∥₁-elim (t .formed) (formed-prop (circuit t)) (λ w. w)
@@ -85,7 +85,7 @@ module _ (t : Netlist) where
   few-places = let m = all-nets in let few = few-nets (circuit t) (formed t) in omega arith
 
   pub driver-is : (x : ℕ) (g d : Gate) → g ≡ getD (t .gates) (x - inputs (circuit t)) d → inputs (circuit t) ≤ x → x - inputs (circuit t) < t .count
-    → (inputs (circuit t) ≤ x) × (x < nets (circuit t)) × (g ≡ getD (circuit t .gates) (x - inputs (circuit t)) Zero) × Below x (nets-of g)
+      → (inputs (circuit t) ≤ x) × (x < nets (circuit t)) × (g ≡ getD (circuit t .gates) (x - inputs (circuit t)) Zero) × Below x (nets-of g)
   driver-is x g d e low high =
       let w = formed t in
       let long = t .places in
@@ -115,5 +115,5 @@ output-at t i d h =
     let lens : length (net-numbers (take (t .width) (t .outs .at))) ≡ length (take (t .width) (t .outs .at)) = length-map (take (t .width) (t .outs .at)) (λ n. n .0) in
     let inside : i < length (take (t .width) (t .outs .at)) = omega arith in
     let same : getD (t .outs .at) i d .0 ≡ getD (circuit t .outs) i 0 =
-      sym (getD-map (λ n. n .0) (take (t .width) (t .outs .at)) i d 0 inside ∙ ap (λ n. n .0) (getD-take (t .width) (t .outs .at) i d h)) in
+    sym (getD-map (λ n. n .0) (take (t .width) (t .outs .at)) i d 0 inside ∙ ap (λ n. n .0) (getD-take (t .width) (t .outs .at) i d h)) in
     (same, subst (λ v. v < nets (circuit t)) (sym same) (below-at (nets (circuit t)) (circuit t .outs) i there (w .outputs)))
