@@ -1,7 +1,7 @@
 -- The line that bytes begin with is unique.
 use mathlib.Core.Path.{_≡_, refl, sym, ap, subst, _∙_}
 use mathlib.Core.List.{List, [], _∷_, _++_, append-assoc}
-use Prim.Native.Nat.{ℕ, _+_, _≤_, _<_}
+use Prim.Native.Nat.{ℕ, _≤_}
 use native.Mathlib.Omega.{arith}
 use lib.ListN.{length}
 use Rattle.std.proofs.shelf.Lists.{append-cancel-left}
@@ -10,7 +10,7 @@ use Rattle.lines.specs.declared.Op.the-variants as op
 use Rattle.lines.specs.declared.Head.{Head}
 use Rattle.lines.specs.declared.Head.the-variants.{Words, Out}
 use Rattle.lines.specs.declared.Head.the-variants as head
-use Rattle.lines.specs.Text.{keyword, numeral, numbers, Small, line, places, Line, Number}
+use Rattle.lines.specs.Text.{keyword, numeral, numbers, Small, line, places, Line}
 use Rattle.lines.proofs.Numbers.{same-number}
 use Rattle.lines.proofs.Tails.{tail-ends}
 use Rattle.lines.proofs.Heads.{same-head}

@@ -2,7 +2,7 @@
 use mathlib.Core.Path.{_≡_, refl, sym, ap, subst, _∙_}
 use mathlib.Core.Logic.{∥∥₁-elim}
 use mathlib.Core.List.{List, [], _∷_}
-use Prim.Native.Nat.{ℕ, zero, suc, _+_, _-_, _*_, _≤_, _<_, min}
+use Prim.Native.Nat.{ℕ, zero, suc, _+_, _-_, _≤_, _<_}
 use native.Mathlib.Nat.{ℕ-set, add-zero, mul-le-mul}
 use native.Mathlib.Bridge.{le-prop}
 use native.Mathlib.Omega.{arith}
@@ -13,7 +13,7 @@ use Rattle.netlist.specs.declared.gate.Gate.{Gate}
 use Rattle.netlist.specs.declared.gate.Gate.the-variants.{Zero}
 use Rattle.netlist.specs.declared.circuit.Netlist.{Netlist}
 use Rattle.netlist.specs.Circuits.{Circuit, WellFormed, InRange, Driven, Below, inputs, nets, nets-of, net-numbers}
-use Rattle.netlist.specs.Netlists.{circuit, DriverIs}
+use Rattle.netlist.specs.Netlists.{circuit}
 use Rattle.netlist.proofs.Runs.{few-inputs, driven-few}
 
 -- a circuit is well formed in one way only
