@@ -1,2 +1,3 @@
 mod Joining
+mod Opening
 mod Threes
