@@ -57,7 +57,7 @@ fn close_row<M: Copy>(rows: &mut [Term<M>], at: usize, len: usize, z: Term<M>)
 pub struct Full;
 
 // Adds a term to the table that is the first `len` rows, and answers how many rows it has then.
-pub fn add_row<M: Copy, K: Kind<M>>(kind: &K, rows: &mut [Term<M>], len: usize, code: u16, mono: M) -> Result<usize, Full>
+fn add_row<M: Copy, K: Kind<M>>(kind: &K, rows: &mut [Term<M>], len: usize, code: u16, mono: M) -> Result<usize, Full>
     requires { ⌜ Table (model (now kind)) (now rows) len ⌝ }
     ensures { λ r. ⌜ elim r [ Ok n ↦ Added (model (now (kind .entry))) code mono (now (rows .entry)) len (now (rows .exit)) n | Err e ↦ Refused (model (now (kind .entry))) code mono (now (rows .entry)) len (now (rows .exit)) ] ⌝ }
 {
@@ -83,7 +83,7 @@ pub fn add_row<M: Copy, K: Kind<M>>(kind: &K, rows: &mut [Term<M>], len: usize, 
 }
 
 // Makes every row a zero row.
-fn clear_rows<M: Copy, K: Kind<M>>(kind: &K, rows: &mut [Term<M>])
+pub fn clear_rows<M: Copy, K: Kind<M>>(kind: &K, rows: &mut [Term<M>])
     ensures { λ _. ⌜ now (rows .exit) ≡ replicate (length (now (rows .entry))) (blank (model (now (kind .entry)))) ⌝ }
 {
     let zero = Term { code: 0, mono: kind.unit() };
@@ -111,14 +111,6 @@ fn copy_rows<M: Copy, K: Kind<M>>(kind: &K, rows: &mut [Term<M>], src: &[Term<M>
 {
     clear_rows(kind, rows);
     rows[0..n].copy_from_slice(&src[0..n]);
-}
-
-// The row at `i`.
-fn row_at<M: Copy>(rows: &[Term<M>], i: usize) -> Term<M>
-    requires { ⌜ i < length (now rows) ⌝ }
-    ensures { λ r. ⌜ ((d : Term M) → r ≡ getD (now (rows .entry)) i d) ⌝ }
-{
-    rows[i]
 }
 
 // A table of terms over rows that are lent.
@@ -169,24 +161,12 @@ impl<'a, M: Copy> TermTable<'a, M> {
         self.len = 0;
     }
 
-    // The term at `i`, where there is one.
-    pub fn get(&self, i: usize) -> Option<Term<M>>
-        requires { ⌜ now self .len ≤ length (now (now self .rows)) ⌝ }
-        ensures { λ r. ⌜ elim r [ Some t ↦ (i < now (self .entry) .len) × ((d : Term M) → t ≡ getD (live (now (self .entry))) i d) | None ↦ now (self .entry) .len ≤ i ] ⌝ }
+    // The terms, the greatest monomial first.
+    pub fn terms(&self) -> &[Term<M>]
+        requires { ⌜ now self .len ≤ capacity (now self) ⌝ }
+        ensures { λ r. ⌜ now r ≡ live (now (self .entry)) ⌝ }
     {
-        if i < self.len {
-            Some(row_at(self.rows, i))
-        } else {
-            None
-        }
-    }
-
-    // The term at `i`, which is below the number of terms.
-    pub fn at(&self, i: usize) -> Term<M>
-        requires { ⌜ i < now self .len ⌝ ∗ ⌜ now self .len ≤ length (now (now self .rows)) ⌝ }
-        ensures { λ r. ⌜ ((d : Term M) → r ≡ getD (live (now (self .entry))) i d) ⌝ }
-    {
-        row_at(self.rows, i)
+        &self.rows[..self.len]
     }
 
     // Takes the leading term off, where there is one.
