@@ -113,7 +113,9 @@ fn copy_rows<M: Copy, K: Kind<M>>(kind: &K, rows: &mut [Term<M>], src: &[Term<M>
     rows[0..n].copy_from_slice(&src[0..n]);
 }
 
-// A table of terms over rows that are lent.
+// A table of terms over rows that are lent: its terms stand in the first `len` rows, the others are zero rows.
+// That is `Sound`, which calls ask for and give back: it speaks of the kind's order and unit, the kind is passed to
+// each call, and an invariant of a generic struct cannot name what a bound brings.
 #[derive(Drop)]
 pub struct TermTable<'a, M> {
     rows: &'a mut [Term<M>],
@@ -201,10 +203,9 @@ impl<'a, M: Copy> TermTable<'a, M> {
 }
 
 // What adding a term means, for every kind.
-pub fn sums_stand<M: Copy, K: Kind<M>>(kind: &K) -> u8
+pub fn sums_stand<M: Copy, K: Kind<M>>(kind: &K)
     ensures value { λ _. ⌜ Adds-value (model (now (kind .entry))) ⌝ }
     ensures coeff { λ _. ⌜ Adds-coeff (model (now (kind .entry))) ⌝ }
     ensures one { λ _. ⌜ Only-one (model (now (kind .entry))) ⌝ }
 {
-    0
 }
