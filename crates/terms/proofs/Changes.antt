@@ -14,11 +14,11 @@ use Rattle.std.proofs.shelf.Lists.{getD-set-same, getD-set-other, length-set}
 use Rattle.std.proofs.shelf.Bits.{div-below, one-shl, div-mul-add, mod-mul-add}
 use Rattle.std.proofs.shelf.Tests.{cases-bool, cases-order, cases-eq, cases-lt, true≢false, eqb-true, eqb-false, eq-eqb, ne-eqb, and-from, le-leb}
 use Rattle.terms.specs.Numbers.{inside}
-use Rattle.terms.specs.Nets.{net-model}
+use Rattle.terms.specs.Nets.{full-words}
 use Rattle.terms.specs.Sets.{holds, Own, SetOf, Without, Top, among}
 use Rattle.terms.specs.declared.nets.NetSet.{NetSet}
 use Rattle.terms.proofs.BothKinds.{net-set, inside-length}
-use Rattle.terms.proofs.Members.{never}
+use Rattle.terms.proofs.Members.{Words, own-words}
 
 -- ---- bits of a number
 abbrev bit : ℕ → ℕ → Bool
@@ -152,8 +152,11 @@ or-none false = refl
 low : (g : ℕ) → g % 64 < 64
 low g = mod-lt g {m = 64} (omega arith)
 
--- what `of_net` writes
-pub one-net : (g : ℕ) → g < 256 → SetOf (g ∷ []) (net-set (set (0 ∷ (0 ∷ (0 ∷ (0 ∷ [])))) (g / 64) ((1 * 2 ^ (g % 64)) % 2 ^ 64)))
+-- what `of_net` makes
+abbrev pub single : ℕ → NetSet
+single g = net-set (set (0 ∷ (0 ∷ (0 ∷ (0 ∷ [])))) (g / 64) ((1 * 2 ^ (g % 64)) % 2 ^ 64))
+
+pub one-net : (g : ℕ) → g < 256 → SetOf (g ∷ []) (single g)
 one-net g l =
     subst (λ x. SetOf (g ∷ []) (net-set (set zeros (g / 64) x))) (sym (one-shl (g % 64) 64 (low g))) (record {
       own = set-own zeros (g / 64) (2 ^ (g % 64)) refl (λ j. subst (λ x. x < 2 ^ 64) (sym (zeros-at j)) (pow-pos 64)) (pow-lt {i = g % 64} {j = 64} (low g));
@@ -185,6 +188,14 @@ net-out ws g l n f =
           ∙ ap (λ b. holds (net-set ws) h && not b) (sym (ne-eqb h g (λ q. d (ap (λ i. i / 64) q)))))
         (cases-eq (h / 64) (g / 64));
     })
+
+pub taken-out : (s : NetSet) (g : ℕ) → g < 256 → Own s → (x : NetSet) × Without s g x
+taken-out s g l o = (_, net-out (s .words) g l (inside-length full-words (s .words) o) (λ i. words-at (s .words) i (own-words 4 (s .words) o)))
+  where
+    words-at : (ws : List ℕ) (i : ℕ) → Words ws → getD ws i 0 < 2 ^ 64
+    words-at [] i u = pow-pos 64
+    words-at (w ∷ ws) zero u = u .0
+    words-at (w ∷ ws) (suc i) u = words-at ws i (u .1)
 
 -- ---- the greatest net
 -- the highest bit of the highest word that is not 0

@@ -10,7 +10,7 @@ ghost use Rattle.std.specs.declared.result.Result.the-variants.{Ok, Err};
 ghost use Rattle.std.specs.declared.option.Option.the-variants.{Some, None};
 ghost use Rattle.terms.specs.Kind.{KindModel, KindLaws};
 ghost use Rattle.terms.specs.Terms.{Falling, place, Table, Added, Refused, TookFirst, blank};
-ghost use Rattle.terms.specs.Lent.{live, capacity, Sound, Sum, NoRoom, Off};
+ghost use Rattle.terms.specs.Lent.{live, capacity, Sound, Leads, Sum, NoRoom, Off};
 ghost use Rattle.terms.specs.Theorems.{Adds-value, Adds-coeff, Only-one};
 use super::Kind;
 use super::Term;
@@ -169,6 +169,17 @@ impl<'a, M: Copy> TermTable<'a, M> {
         ensures { λ r. ⌜ now r ≡ live (now (self .entry)) ⌝ }
     {
         &self.rows[..self.len]
+    }
+
+    // The leading term, where there is one.
+    pub fn lead(&self) -> Option<Term<M>>
+        requires { ⌜ now self .len ≤ capacity (now self) ⌝ }
+        ensures { λ r. ⌜ Leads (live (now (self .entry))) r ⌝ }
+    {
+        match self.terms() {
+            [lead, ..] => Some(*lead),
+            [] => None,
+        }
     }
 
     // Takes the leading term off, where there is one.
