@@ -1,0 +1,3 @@
+pub mod Reductions
+pub mod Forms
+pub mod Tails
