@@ -1,7 +1,7 @@
 -- The line that bytes begin with is unique.
 use mathlib.Core.Path.{_≡_, refl, sym, ap, subst, _∙_}
 use mathlib.Core.List.{List, [], _∷_, _++_, append-assoc}
-use Prim.Native.Nat.{ℕ, _+_, _≤_, _<_}
+use Prim.Native.Nat.{ℕ, _≤_}
 use native.Mathlib.Omega.{arith}
 use lib.ListN.{length}
 use Rattle.std.proofs.shelf.Lists.{append-cancel-left}
@@ -10,7 +10,7 @@ use Rattle.lines.specs.declared.Op.the-variants as op
 use Rattle.lines.specs.declared.Head.{Head}
 use Rattle.lines.specs.declared.Head.the-variants.{Words, Out}
 use Rattle.lines.specs.declared.Head.the-variants as head
-use Rattle.lines.specs.Text.{keyword, numeral, numbers, Small, line, places, Line, Number}
+use Rattle.lines.specs.Text.{keyword, numeral, numbers, Small, line, places, Line}
 use Rattle.lines.proofs.Numbers.{same-number}
 use Rattle.lines.proofs.Tails.{tail-ends}
 use Rattle.lines.proofs.Heads.{same-head}
@@ -23,7 +23,7 @@ same-numbers (v ∷ vs) (w ∷ ws) r t n a b e =
     let f = append-cancel-left (32 ∷ []) _ _ e in
     let g = sym (append-assoc (numeral v) (numbers vs) (10 ∷ r)) ∙ f ∙ append-assoc (numeral w) (numbers ws) (10 ∷ t) in
     let one = same-number {s = numeral v ++ (numbers vs ++ (10 ∷ r))} {v = v} {w = w} {r = numbers vs ++ (10 ∷ r)} {t = numbers ws ++ (10 ∷ t)}
-      (record { small = a .0; bytes = refl; ends = tail-ends vs r }) (record { small = b .0; bytes = g; ends = tail-ends ws t }) in
+    (record { small = a .0; bytes = refl; ends = tail-ends vs r }) (record { small = b .0; bytes = g; ends = tail-ends ws t }) in
     let rest = same-numbers vs ws r t (omega arith) (a .1) (b .1) (one .1) in
     ((λ i. one .0 i ∷ rest .0 i), rest .1)
 

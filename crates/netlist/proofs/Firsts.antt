@@ -1,5 +1,5 @@
 -- What is wrong with the words line is unique.
-use mathlib.Core.Path.{_≡_, refl, sym, ap, subst, _∙_}
+use mathlib.Core.Path.{_≡_, refl, ap, subst, _∙_}
 use mathlib.Core.Logic.{_⊎_, inl, inr}
 use mathlib.Core.List.{List, [], _∷_}
 use Prim.Native.Nat.{ℕ}
@@ -35,7 +35,7 @@ module _ (n k : ℕ) (s : List ℕ) where
 
   -- with a words line of these sizes
   at-sizes : {f : Fault} {a b : ℕ} {r : List ℕ} → Line k s Words (a ∷ b ∷ []) r → BadFirst n k s f
-    → ((InRange a b → ⊥) × (SizesOutOfRange ≡ f)) ⊎ (InRange a b × (a ≡ n → b ≡ k → ⊥) × (SizesNotTheShelfs ≡ f))
+      → ((InRange a b → ⊥) × (SizesOutOfRange ≡ f)) ⊎ (InRange a b × (a ≡ n → b ≡ k → ⊥) × (SizesNotTheShelfs ≡ f))
   at-sizes l (no-words e) = absurd (not-empty l e)
   at-sizes l (words-form _ h) = absurd (h _ _ l)
   at-sizes l (sizes-range a b r m h) = inl ((λ i. h (moved l m i)), refl)

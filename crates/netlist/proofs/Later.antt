@@ -42,7 +42,7 @@ module _ (k d at : ℕ) (s : List ℕ) where
 
   -- with the line of a gate
   at-gate : {f : Fault} {o : Op} {vs r : List ℕ} → Line k s (head.Gate o) vs r → BadEntry k d at s f
-    → ((256 ≤ d) × (TooManyNets at ≡ f)) ⊎ ((d < 256) × (Below d vs → ⊥) × (NetNotDriven at ≡ f))
+      → ((256 ≤ d) × (TooManyNets at ≡ f)) ⊎ ((d < 256) × (Below d vs → ⊥) × (NetNotDriven at ≡ f))
   at-gate l (no-line e) = absurd (not-empty l e)
   at-gate l (line-form _ h _) = absurd (h _ _ _ l)
   at-gate l (gate-over o vs r m h) = inl (h, refl)

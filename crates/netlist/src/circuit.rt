@@ -1,4 +1,6 @@
 // A netlist in memory. Only a well-formed one can be made.
+ghost use mathlib.Core.Path.{_≡_};
+ghost use lib.ListN.{length};
 ghost use Rattle.netlist.specs.Circuits.{WellFormed, circuit-of};
 use crate::gate::Gate;
 use crate::gate::Outs;
@@ -12,5 +14,6 @@ pub struct Netlist {
     pub(crate) count: usize,
     pub(crate) gates: [Gate; 256],
     pub(crate) outs: Outs,
+    ghost places: { length gates ≡ 256 },
     ghost formed: { ∥ WellFormed (circuit-of words width count gates (outs .at)) ∥₁ },
 }

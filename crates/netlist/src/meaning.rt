@@ -1,7 +1,16 @@
-// Facts on what a netlist computes.
-ghost use Rattle.netlist.specs.Meaning.{Tails-agree};
+// Facts on what a netlist computes, each on the contract of a function that does nothing.
+ghost use mathlib.Core.List.{List};
+ghost use Prim.Native.Nat.{ℕ};
+ghost use Rattle.netlist.specs.Meaning.{Inputs-placed, Tails-agree};
 
-// A gate's net has the sum, modulo 2, over the gate's tail.
+// Bit i of word w is net w·k + i, for words of any number of bits.
+pub fn inputs_placed() -> u8
+    ensures { λ _. ⌜ ((k : ℕ) (xs : List ℕ) → Inputs-placed k xs) ⌝ }
+{
+    0
+}
+
+// The net of a gate has the sum, modulo 2, over the gate's tail.
 pub fn tails_agree() -> u8
     ensures { λ _. ⌜ Tails-agree ⌝ }
 {
