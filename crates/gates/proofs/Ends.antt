@@ -22,6 +22,7 @@ use Rattle.netlist.specs.declared.gate.Gate.{Gate}
 use Rattle.netlist.specs.declared.gate.Gate.the-variants.{And, Or, Xor, Nand, Nor, Xnor, Not, Buf, Zero, One}
 use Rattle.netlist.specs.Circuits.{Circuit, WellFormed, Below, Driven, nets-of, inputs, nets}
 use Rattle.netlist.specs.Meaning.{tail, parity, bit, word, output}
+use Rattle.netlist.proofs.Formed.{few-nets, driven-reads}
 use Rattle.netlist.proofs.Meanings.{tails-agree, kept}
 use Rattle.terms.specs.Sets.{holds, among, Own, Within, Top, SetOf, Greatest, Net-laws}
 use Rattle.terms.specs.Additions.{Ended, done, full, adding}
@@ -55,22 +56,6 @@ tail-below (Not x) n b = (tt, (b, tt))
 tail-below (Buf x) n b = (b, tt)
 tail-below Zero n b = tt
 tail-below One n b = (tt, tt)
-
-pub driven-reads : (gs : List Gate) (d j : ℕ) → Driven d gs → j < length gs → Below (d + j) (nets-of (getD gs j Zero))
-driven-reads [] d j h l = absurd (not-suc-le-zero l)
-driven-reads (g ∷ gs) d zero h l = subst (λ n. Below n (nets-of g)) (sym (add-zero d)) (h .1)
-driven-reads (g ∷ gs) d (suc j) h l =
-    let e : d + 1 + j ≡ d + suc j = omega arith in
-    subst (λ n. Below n (nets-of (getD gs j Zero))) e (driven-reads gs (d + 1) j (h .2) (omega arith))
-
-pub driven-few : (gs : List Gate) (d : ℕ) → d ≤ 256 → Driven d gs → d + length gs ≤ 256
-driven-few [] d l h = omega arith
-driven-few (g ∷ gs) d l h = let r = driven-few gs (d + 1) (omega (arith, h .0)) (h .2) in omega arith
-
-pub few-nets : (c : Circuit) → WellFormed c → inputs c + length (c .gates) ≤ 256
-few-nets c w =
-    let p : c .words * c .width ≤ 3 * 8 = mul-le-mul (w .range .few-words) (w .range .few-bits) in
-    driven-few (c .gates) (inputs c) (omega arith) (w .driven)
 
 -- ---- members of the sets that come in
 pub among-below : (n h : ℕ) (xs : List ℕ) → Below n xs → among h xs ≡ true → h < n

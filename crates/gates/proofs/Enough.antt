@@ -26,7 +26,8 @@ use Rattle.gates.proofs.Kept.{All-below}
 use Rattle.terms.proofs.Members.{laws-of-sets, never}
 use Rattle.terms.proofs.Changes.{single, one-net, taken-out}
 use Rattle.gates.proofs.Unions.{or-assoc, joined-one}
-use Rattle.gates.proofs.Ends.{tail-below, driven-reads, sets-more, few-nets}
+use Rattle.netlist.proofs.Formed.{driven-reads, few-nets}
+use Rattle.gates.proofs.Ends.{tail-below, sets-more}
 use Rattle.terms.proofs.Additions.{adding-on, adding-more}
 use Rattle.gates.proofs.Once.{reduces-more}
 use Rattle.gates.proofs.Falls.{height, joins-tail, turn-terms, turn-falls}

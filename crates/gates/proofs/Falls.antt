@@ -33,7 +33,8 @@ use Rattle.gates.specs.Tails.{Joined, Joins, each}
 use Rattle.terms.proofs.Additions.{Terms-all, adding-keeps}
 use Rattle.gates.proofs.Kept.{All-below}
 use Rattle.terms.proofs.Members.{number, number-less, greatest-less, never}
-use Rattle.gates.proofs.Ends.{tail-below, driven-reads, tail-comes, adding-terms, Comes}
+use Rattle.netlist.proofs.Formed.{driven-reads}
+use Rattle.gates.proofs.Ends.{tail-below, tail-comes, adding-terms, Comes}
 
 -- falls with each turn
 abbrev pub height : List (Term NetSet) → ℕ

@@ -17,7 +17,8 @@ use Rattle.terms.proofs.Members.{laws-of-sets}
 use Rattle.netlist.specs.Circuits.{Below, Circuit, WellFormed, nets}
 use Rattle.gates.specs.Reductions.{OutTerms, Reduces, Worked, stops, goes}
 use Rattle.gates.specs.Forms.{Terms-of}
-use Rattle.gates.proofs.Ends.{below-more, few-nets, adding-terms, out-comes}
+use Rattle.netlist.proofs.Formed.{few-nets}
+use Rattle.gates.proofs.Ends.{below-more, adding-terms, out-comes}
 
 -- the output terms, written out
 abbrev pub out-terms : ℕ → List ℕ → List (Term NetSet)

@@ -1,4 +1,7 @@
-// From gates to bits.
+// From gates to bits: the algebraic normal form of a netlist's output word.
+mod tail;
+mod work;
+
 ghost use Rattle.gates.specs.Forms.{Values-kept, Steps-keep, One-end, More-rows, Enough-rows, Always-ends};
 
 // What the working from gates to bits means.

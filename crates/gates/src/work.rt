@@ -1,0 +1,51 @@
+// The working from gates to bits, on a term table.
+ghost use mathlib.Core.Path.{_≡_};
+ghost use mathlib.Core.List.{List, [], _∷_};
+ghost use lib.ListN.{take};
+ghost use denote.Ref.{name};
+ghost use Rattle.terms.specs.Nets.{net-model};
+ghost use Rattle.terms.specs.Lent.{live, capacity, Sound};
+ghost use Rattle.terms.specs.Additions.{adding};
+ghost use Rattle.terms.specs.declared.Term.{Term};
+ghost use Rattle.terms.specs.declared.nets.NetSet.{NetSet};
+ghost use Rattle.netlist.specs.Netlists.{circuit};
+ghost use Rattle.gates.specs.Reductions.{OutTerms, Reduces, Worked};
+ghost use Rattle.gates.specs.Forms.{Terms-of, Right-end, Only-end};
+ghost use Rattle.gates.specs.Tails.{each, ended};
+use crate::tail::tail_of;
+use crate::tail::Tail;
+use netlist::circuit::Netlist;
+use terms::nets::NetSet;
+use terms::nets::Nets;
+use terms::nets::NetsKind;
+use terms::Full;
+use terms::TermTable;
+
+// Adds `code` with each set of the tail, in order.
+fn add_tail(table: &mut TermTable<NetSet>, code: u16, tail: &Tail) -> Result<(), Full>
+    requires sound { ⌜ Sound net-model (now table) ⌝ }
+    ensures same { λ _. ⌜ name (now (table .exit) .rows) ≡ name (now (table .entry) .rows) ⌝ }
+    ensures room { λ _. ⌜ capacity (now (table .exit)) ≡ capacity (now (table .entry)) ⌝ }
+    ensures sound { λ _. ⌜ Sound net-model (now (table .exit)) ⌝ }
+    ensures sum { λ r. ⌜ adding net-model (capacity (now (table .entry))) (each code (take (now (tail .entry) .len) (now (tail .entry) .sets))) (live (now (table .entry))) ≡ ended r (live (now (table .exit))) ⌝ }
+{
+    for i in 0..tail.len {
+        table.add(&Nets, code, tail.sets[i])?;
+    }
+    Ok(())
+}
+
+// Adds code 2^i with the set of output net i, for each bit i of the output.
+fn add_outs(net: &Netlist, table: &mut TermTable<NetSet>) -> Result<(), Full>
+    requires sound { ⌜ Sound net-model (now table) ⌝ }
+    ensures same { λ _. ⌜ name (now (table .exit) .rows) ≡ name (now (table .entry) .rows) ⌝ }
+    ensures room { λ _. ⌜ capacity (now (table .exit)) ≡ capacity (now (table .entry)) ⌝ }
+    ensures sound { λ _. ⌜ Sound net-model (now (table .exit)) ⌝ }
+    ensures sum { λ r. ⌜ ((outs : List (Term NetSet)) → OutTerms 0 (circuit (now (net .entry)) .outs) outs → adding net-model (capacity (now (table .entry))) outs (live (now (table .entry))) ≡ ended r (live (now (table .exit)))) ⌝ }
+{
+    for i in 0..net.width() as usize {
+        let out = net.output(i);
+        table.add(&Nets, 1 << i, NetSet::of_net(out.0))?;
+    }
+    Ok(())
+}
