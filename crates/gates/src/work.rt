@@ -49,3 +49,26 @@ fn add_outs(net: &Netlist, table: &mut TermTable<NetSet>) -> Result<(), Full>
     }
     Ok(())
 }
+
+// While the leading term holds a gate's net, replaces it by the tail of the gate of its greatest net.
+fn replace_gates(net: &Netlist, table: &mut TermTable<NetSet>) -> Result<(), Full>
+    requires sound { ⌜ Sound net-model (now table) ⌝ }
+    requires terms { ⌜ Terms-of (circuit (now net)) (live (now table)) ⌝ }
+    ensures same { λ _. ⌜ name (now (table .exit) .rows) ≡ name (now (table .entry) .rows) ⌝ }
+    ensures room { λ _. ⌜ capacity (now (table .exit)) ≡ capacity (now (table .entry)) ⌝ }
+    ensures sound { λ _. ⌜ Sound net-model (now (table .exit)) ⌝ }
+    ensures end { λ r. ⌜ Reduces (circuit (now (net .entry))) (capacity (now (table .entry))) (live (now (table .entry))) (ended r (live (now (table .exit)))) ⌝ }
+{
+    while let Some(lead) = table.lead() {
+        let Some(g) = lead.mono.greatest() else {
+            return Ok(());
+        };
+        let Some(gate) = net.driver(g as usize) else {
+            return Ok(());
+        };
+        let tail = tail_of(gate, lead.mono.without(g));
+        let _ = table.take_lead(&Nets);
+        add_tail(table, lead.code, &tail)?;
+    }
+    Ok(())
+}
