@@ -10,10 +10,12 @@ ghost use Rattle.terms.specs.declared.Term.{Term};
 ghost use Rattle.terms.specs.declared.nets.NetSet.{NetSet};
 ghost use Rattle.netlist.specs.Netlists.{circuit};
 ghost use Rattle.gates.specs.Reductions.{OutTerms, Reduces, Worked};
-ghost use Rattle.gates.specs.Forms.{Terms-of, Right-end, Only-end};
+ghost use Rattle.gates.specs.Forms.{Terms-of};
 ghost use Rattle.gates.specs.Tails.{each, ended};
+ghost use Rattle.gates.specs.Answers.{Answered};
 use crate::tail::tail_of;
 use crate::tail::Tail;
+use fault::Fault;
 use netlist::circuit::Netlist;
 use terms::nets::NetSet;
 use terms::nets::Nets;
@@ -71,4 +73,39 @@ fn replace_gates(net: &Netlist, table: &mut TermTable<NetSet>) -> Result<(), Ful
         add_tail(table, lead.code, &tail)?;
     }
     Ok(())
+}
+
+// The whole working, from the empty table: the output terms, then gate after gate.
+fn reduce(net: &Netlist, table: &mut TermTable<NetSet>) -> Result<(), Full>
+    requires sound { ⌜ Sound net-model (now table) ⌝ }
+    requires empty { ⌜ live (now table) ≡ [] ⌝ }
+    ensures same { λ _. ⌜ name (now (table .exit) .rows) ≡ name (now (table .entry) .rows) ⌝ }
+    ensures room { λ _. ⌜ capacity (now (table .exit)) ≡ capacity (now (table .entry)) ⌝ }
+    ensures sound { λ _. ⌜ Sound net-model (now (table .exit)) ⌝ }
+    ensures worked { λ r. ⌜ Worked (circuit (now (net .entry))) (capacity (now (table .entry))) (ended r (live (now (table .exit)))) ⌝ }
+{
+    add_outs(net, table)?;
+    replace_gates(net, table)
+}
+
+// The most terms of a bit form.
+const MAX_TERMS: usize = 256;
+
+// Works on the table, which is empty, and leaves the bit form there, or nothing where there is none to answer.
+pub(crate) fn find_form(net: &Netlist, table: &mut TermTable<NetSet>) -> Result<usize, Fault>
+    requires sound { ⌜ Sound net-model (now table) ⌝ }
+    requires empty { ⌜ live (now table) ≡ [] ⌝ }
+    ensures same { λ _. ⌜ name (now (table .exit) .rows) ≡ name (now (table .entry) .rows) ⌝ }
+    ensures answer { λ r. ⌜ Answered (circuit (now (net .entry))) (capacity (now (table .entry))) r (now (now (table .exit) .rows)) ⌝ }
+{
+    let Ok(()) = reduce(net, table) else {
+        table.clear(&Nets);
+        return Err(Fault::BitTableFull);
+    };
+    let count = table.len();
+    if count > MAX_TERMS {
+        table.clear(&Nets);
+        return Err(Fault::TooManyBitTerms);
+    }
+    Ok(count)
 }
