@@ -70,15 +70,15 @@ top-of : (s : NetSet) → Own s → ((g : ℕ) × Top s g) ⊎ ((h : ℕ) → ho
 top-of s o = find-top s 256 (λ h l. ⊎-elim (λ e. absurd (let m = laws-of-sets .few s o h e in omega arith)) (λ e. e) (cases-bool (holds s h)))
 
 -- ---- unlimited additions
-abbrev sums : List (Term NetSet) → List (Term NetSet) → List (Term NetSet)
+abbrev pub sums : List (Term NetSet) → List (Term NetSet) → List (Term NetSet)
 sums [] ts = ts
 sums (t ∷ adds) ts = sums adds (added net-model (t .code) (t .mono) ts)
 
-abbrev wanted : List (Term NetSet) → List (Term NetSet) → ℕ
+abbrev pub wanted : List (Term NetSet) → List (Term NetSet) → ℕ
 wanted [] ts = 0
 wanted (t ∷ adds) ts = length (added net-model (t .code) (t .mono) ts) + wanted adds (added net-model (t .code) (t .mono) ts)
 
-adding-all : (cap : ℕ) (adds ts : List (Term NetSet)) → wanted adds ts ≤ cap → adding net-model cap adds ts ≡ done (sums adds ts)
+pub adding-all : (cap : ℕ) (adds ts : List (Term NetSet)) → wanted adds ts ≤ cap → adding net-model cap adds ts ≡ done (sums adds ts)
 adding-all cap [] ts l = refl
 adding-all cap (t ∷ adds) ts l =
     let next = added net-model (t .code) (t .mono) ts in

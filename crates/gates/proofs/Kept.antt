@@ -38,12 +38,12 @@ All-below n [] = Unit {0}
 All-below n (xs ∷ us) = Below n xs × All-below n us
 
 -- ---- the value of terms
+pub xor-turn : (a b c : ℕ) → bitXor a (bitXor b c) ≡ bitXor (bitXor b a) c
+xor-turn a b c = sym (xor-assoc a b c) ∙ ap (λ x. bitXor x c) (xor-comm a b)
+
 module _ (v : ℕ → Bool) where
   pub value-at-added : (c : ℕ) (m : NetSet) (ts : List (Term NetSet)) → value-at v (added net-model c m ts) ≡ bitXor (cond (set-on v m) c 0) (value-at v ts)
   value-at-added c m ts = value-added (λ _. Unit {0}) (λ d s. cond (set-on v s) d 0) (λ a b s _ _. cond-xor (set-on v s) a b) net-model net-laws c m tt ts (any-codes ts)
-
-  xor-turn : (a b c : ℕ) → bitXor a (bitXor b c) ≡ bitXor (bitXor b a) c
-  xor-turn a b c = sym (xor-assoc a b c) ∙ ap (λ x. bitXor x c) (xor-comm a b)
 
   pub value-at-adding : (cap : ℕ) (adds ts us : List (Term NetSet)) → adding net-model cap adds ts ≡ done us → value-at v us ≡ bitXor (value-at v adds) (value-at v ts)
   value-at-adding cap [] ts us e = ap (value-at v) (sym (done-same ts us e)) ∙ sym (xor-zero-l (value-at v ts))

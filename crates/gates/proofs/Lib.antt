@@ -6,3 +6,4 @@ pub mod Unions
 pub mod Falls
 pub mod Outs
 pub mod Enough
+pub mod Sole

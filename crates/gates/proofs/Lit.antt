@@ -22,6 +22,9 @@ unfolding every
 every-true zero = refl
 every-true (suc n) = every-true n
 
+pub every-all : (n : ℕ) (p : ℕ → Bool) → ((h : ℕ) → p h ≡ true) → every n p ≡ true
+every-all n p e = (λ i. every n (λ h. e h i)) ∙ every-true n
+
 and-four : (a b c d : Bool) → ((a && b) && (c && d)) ≡ ((a && c) && (b && d))
 and-four true true c d = refl
 and-four true false true d = refl

@@ -21,6 +21,7 @@ pub record Found (c : Circuit) (cap : ℕ) (us : List (Term NetSet)) : Type 0 wh
   pub worked : Worked c cap (done us)
   pub only : Only-end c cap (done us)
   pub form : Bit-form c us
+  pub sole : (vs : List (Term NetSet)) → Bit-form c vs → vs ≡ us
   pub few : length us ≤ 256
 
 -- why no bit form is answered: an addition of the working found no free row, or the working ended with more than 256 terms

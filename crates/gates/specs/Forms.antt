@@ -37,6 +37,11 @@ pub record Bit-form (c : Circuit) (us : List (Term NetSet)) : Type 0 where
   pub codes : Codes (λ a. a < 2 ^ c .width) us
   pub right : (ins : List Bool) → length ins ≡ inputs c → value-at (λ g. getD ins g false) us ≡ output c ins
 
+-- a circuit has one bit form: its meaning fixes the list
+abbrev pub Only-form : Type 0
+Only-form = (c : Circuit) (us vs : List (Term NetSet)) → Bit-form c us → Bit-form c vs → us ≡ vs
+
+-- what a working that went to its end has found
 abbrev pub Right-end : Circuit → Ended NetSet → Type 0
 Right-end c (done us) = Bit-form c us
 Right-end c (full us) = Unit {0}

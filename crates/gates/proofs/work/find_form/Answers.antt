@@ -14,6 +14,7 @@ use Rattle.netlist.proofs.Formed.{formed}
 use Rattle.gates.specs.Answers.{no-row, too-many}
 use Rattle.gates.proofs.Ends.{values-kept}
 use Rattle.gates.proofs.Once.{one-end}
+use Rattle.gates.proofs.Sole.{only-form}
 use Rattle.gates.proofs.work.find_form.Needs as need
 
 pub returns-in-rest : need.returns-in-rest
@@ -50,6 +51,7 @@ returns c =
     let s = c .in-Ok .ensures tt in
     let l : length us ≡ t .len = length-take-le (t .len) (t .rows .now) (s .sound .within) in
     let n : c .len-count .result ≡ length us = c .len-count .ensures ∙ sym l in
+    let form = values-kept laws-of-sets k cap (done us) (formed (c .args .net .now)) (s .worked) in
     let few : length us ≤ 256 = omega (arith, c .len-count .ensures, c .if-count-gt-MAX-TERMS .left) in
     let rows : t .rows .now ≡ padded net-model cap us =
           sym (take-append-drop (t .len) (t .rows .now)) ∙ ap (λ xs. us ++ xs) (s .sound .rest ∙ ap₂ (λ a b. replicate (a - b) (blank net-model)) (s .room) (sym l)) in
@@ -58,7 +60,8 @@ returns c =
       answer = (us, record {
         worked = s .worked;
         only = λ d w. one-end laws-of-sets k cap d (done us) w (s .worked);
-        form = values-kept laws-of-sets k cap (done us) (formed (c .args .net .now)) (s .worked);
+        form = form;
+        sole = λ vs v. only-form k vs us v form;
         few = few;
       }, n, rows);
     }
