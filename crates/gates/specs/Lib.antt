@@ -1,0 +1,4 @@
+pub mod Reductions
+pub mod Forms
+pub mod Tails
+pub mod Answers

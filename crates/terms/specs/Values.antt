@@ -1,0 +1,22 @@
+-- The value of terms of net sets where each net has a bit: a sum of codes over square-free monomials. Assumes nothing.
+use mathlib.Core.Path.{_≡_}
+use mathlib.Core.Bool.{Bool, true, false, _||_, _&&_, not, cond}
+use mathlib.Core.List.{List, [], _∷_}
+use Prim.Native.Nat.{ℕ, zero, suc}
+use Rattle.terms.specs.Terms.{value}
+use Rattle.terms.specs.Sets.{holds}
+use Rattle.terms.specs.declared.Term.{Term}
+use Rattle.terms.specs.declared.nets.NetSet.{NetSet}
+
+-- p holds of every number below n
+unfoldable pub every : ℕ → (ℕ → Bool) → Bool
+every zero p = true
+every (suc n) p = p n && every n p
+
+-- each net that s holds has bit one
+abbrev pub set-on : (ℕ → Bool) → NetSet → Bool
+set-on v s = every 256 (λ g. not (holds s g) || v g)
+
+-- the sum of the codes whose sets hold only one bits
+abbrev pub value-at : (ℕ → Bool) → List (Term NetSet) → ℕ
+value-at v ts = value (λ c s. cond (set-on v s) c 0) ts
