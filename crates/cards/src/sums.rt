@@ -7,7 +7,7 @@ ghost use lib.ListN.{length, getD};
 ghost use Rattle.algebra.specs.Field.{size};
 ghost use Rattle.algebra.specs.Codes.{power};
 ghost use Rattle.algebra.specs.Ops.{atRow};
-ghost use Rattle.cards.specs.Sums.{sums-term};
+ghost use Rattle.cards.specs.Sums.{DualSquares, BitSums};
 use field::Field;
 use field::dual::duals;
 use terms::Term;
@@ -34,4 +34,35 @@ fn at_word(w: usize, e: u16) -> [u16; 3]
     let mut row = [0; 3];
     row[w] = e;
     row
+}
+
+// Row i: the dual of bit i, and its squares.
+fn dual_squares<F: Field>(field: &F) -> [[u16; 8]; 8]
+    ensures { λ r. ⌜ DualSquares (model (now (field .entry))) r ⌝ }
+{
+    let ds = duals(field);
+    let mut rows = [[0; 8]; 8];
+    for i in 0..field.width() as usize {
+        rows[i] = squares(field, ds[i]);
+    }
+    rows
+}
+
+// The sums of the bits of `n` words: k terms for each place, in the places' order.
+pub fn bit_sums<F: Field>(field: &F, n: usize) -> [Term<[u16; 3]>; 192]
+    requires { ⌜ n ≤ 3 ⌝ }
+    ensures { λ r. ⌜ BitSums (model (now (field .entry))) n r ⌝ }
+{
+    let k = field.width() as usize;
+    let powers = dual_squares(field);
+    let mut sums = [Term { code: 0, mono: [0; 3] }; 192];
+    for t in 0..n * k * k {
+        let place = t / k;
+        let j = t % k;
+        sums[t] = Term {
+            code: powers[place % k][j],
+            mono: at_word(place / k, 1 << j),
+        };
+    }
+    sums
 }
