@@ -1,5 +1,5 @@
 -- The sums of the places, by their terms. Assumes nothing.
-use mathlib.Core.Path.{_≡_, refl, sym, ap, ap₂, subst, _∙_}
+use mathlib.Core.Path.{_≡_, refl, sym, ap, ap₂, subst, subst₂, _∙_}
 use mathlib.Core.Bool.{Bool, true, false, cond, _&&_}
 use mathlib.Core.List.{List, [], _∷_, _++_}
 use mathlib.Core.Logic.{⊎-elim}
@@ -14,14 +14,20 @@ use lib.Pow.{pow-lt, pow-pos, le-ones}
 use lib.Seq.{getD-drop}
 use Rattle.std.proofs.shelf.Lists.{take-more}
 use Rattle.std.proofs.shelf.Tests.{le-leb, lt-ltb, and-from, cond-true, cond-false, cases-bool}
-use Rattle.algebra.specs.Field.{FieldData, FieldLaws, size}
+use Rattle.algebra.specs.Field.{FieldData, FieldLaws, size, product}
 use Rattle.algebra.specs.Ops.{atRow}
+use Rattle.std.specs.declared.result.Result.{Result}
 use Rattle.terms.specs.Exps.{limit}
+use Rattle.terms.specs.Kind.{KindModel}
 use Rattle.terms.specs.Numbers.{inside}
 use Rattle.terms.specs.Terms.{Monos}
 use Rattle.terms.specs.declared.Term.{Term}
-use Rattle.convert.specs.Convert.{block, chosen}
-use Rattle.cards.specs.Sums.{bit-term, bit-sum, sums-term, card-kind}
+use Rattle.terms.specs.declared.nets.NetSet.{NetSet}
+use Rattle.convert.specs.Convert.{block, chosen, Answered}
+use Rattle.convert.specs.Places.{net-held}
+use Rattle.convert.specs.declared.FullTable.{FullTable}
+use Rattle.cards.specs.Sums.{bit-term, bit-sum, sums-term, card-kind, BitSums}
+use Rattle.cards.specs.Working.{bit-factors}
 
 -- ---- own rows
 pub monos-set : {M : Type 0} (P : M → Type 0) (ts : List (Term M)) (i : ℕ) (t : Term M) → Monos P ts → P (t .mono) → Monos P (set ts i t)
@@ -97,3 +103,20 @@ chosen-same held f g places e i zero h = refl
 chosen-same held f g places e i (suc n) h =
     let rest = chosen-same held f g places e (suc i) n (omega arith) in
     ap₂ (λ x y. cond (held i) (x ∷ y) y) (e i (omega arith)) rest
+
+-- an answer by the sums is one by the factors of the bits
+module _ (m : FieldData) (l : FieldLaws m) (n : ℕ) (sums : List (Term (List ℕ))) (h : n ≤ 3) (b : BitSums m n sums) where
+  pub whole : n * m .width * m .width ≤ length sums
+  whole = let f = few-terms n (m .width) h (l .wide) in omega (arith, b .count)
+
+  factors-same : Path (NetSet → List (List (Term (List ℕ)))) (λ s. chosen (net-held s) (block (m .width) sums) 0 (n * m .width)) (bit-factors m n (b .dual))
+  factors-same = λ i s.
+      chosen-same (net-held s) (block (m .width) sums) (λ p. bit-sum m (p / m .width) (b .dual (p % m .width)) (m .width)) (n * m .width)
+        (block-is m l (b .dual) n sums whole (b .terms)) 0 (n * m .width) (omega arith) i
+
+  pub answered-by : (k : KindModel (List ℕ)) (w cap count : ℕ) (bits : List (Term NetSet)) (rows : List (Term (List ℕ))) (r : Result ℕ FullTable) → k ≡ card-kind m n → w ≡ m .width
+      → Answered k (product m) cap count (λ s. chosen (net-held s) (block w sums) 0 (n * w)) bits rows r
+      → Answered (card-kind m n) (product m) cap count (bit-factors m n (b .dual)) bits rows r
+  answered-by k w cap count bits rows r ek ew a =
+      subst (λ f. Answered (card-kind m n) (product m) cap count f bits rows r) factors-same
+        (subst₂ (λ (x : KindModel (List ℕ)) (v : ℕ). Answered x (product m) cap count (λ s. chosen (net-held s) (block v sums) 0 (n * v)) bits rows r) ek ew a)

@@ -37,6 +37,7 @@ pub trait Holds<S> {
 }
 
 // What stands for each place: the terms of `sums` in blocks of `width`, one block a place.
+#[derive(Drop)]
 pub struct Factors<'a, M> {
     pub sums: &'a [Term<M>],
     pub width: usize,
