@@ -1,2 +1,6 @@
 pub mod Additions
 pub mod Steps
+pub mod Plain
+pub mod Value
+pub mod More
+pub mod Enough

@@ -48,7 +48,7 @@ monos-drop P zero ts u = u
 monos-drop P (suc n) [] u = tt
 monos-drop P (suc n) (t ∷ ts) u = monos-drop P n ts (u .1)
 
-monos-append : {M : Type 0} (P : M → Type 0) (ss ts : List (Term M)) → Monos P ss → Monos P ts → Monos P (ss ++ ts)
+pub monos-append : {M : Type 0} (P : M → Type 0) (ss ts : List (Term M)) → Monos P ss → Monos P ts → Monos P (ss ++ ts)
 monos-append P [] ts u v = v
 monos-append P (s ∷ ss) ts u v = (u .0, monos-append P ss ts (u .1) v)
 
