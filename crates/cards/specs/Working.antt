@@ -1,21 +1,24 @@
 -- The working from a bit form to its card, and what is answered. Assumes nothing.
 use mathlib.Core.Path.{_≡_}
+use mathlib.Core.Bool.{true}
 use mathlib.Core.List.{List, []}
-use Prim.Native.Nat.{ℕ, _*_, _/_, _%_, _<_, min, max}
+use Prim.Native.Nat.{ℕ, _*_, _/_, _%_, _^_, _<_, _≤_, min, max}
 use lib.ListN.{take, replicate}
+use Rattle.std.specs.Results.{isOk}
 use Rattle.std.specs.declared.result.Result.{Result}
 use Rattle.std.specs.declared.result.Result.the-variants.{Ok, Err}
 use Rattle.algebra.specs.Codes.{Dual}
-use Rattle.algebra.specs.Field.{FieldData, product}
+use Rattle.algebra.specs.Field.{FieldData, product, size}
 use Rattle.fault.specs.declared.Fault.{Fault}
 use Rattle.fault.specs.declared.Fault.the-variants.{ProductTableFull, CardTableFull}
-use Rattle.terms.specs.Terms.{blank, Table}
+use Rattle.terms.specs.Terms.{blank, Table, Codes}
 use Rattle.terms.specs.declared.Term.{Term}
 use Rattle.terms.specs.declared.nets.NetSet.{NetSet}
 use Rattle.convert.specs.Convert.{chosen, Converted, finished, stopped, converting}
 use Rattle.convert.specs.Places.{net-held}
 use Rattle.convert.specs.declared.FullTable.{FullTable}
 use Rattle.convert.specs.declared.FullTable.the-variants.{Product, Outcome}
+use Rattle.cards.specs.Law.{CardOf}
 use Rattle.cards.specs.Sums.{bit-sum, card-kind}
 
 -- the number of input words that counts: 1 for a number below 1, 3 for one above 3
@@ -40,8 +43,21 @@ abbrev pub CardEnd : FieldData → ℕ → Converted (List ℕ) → ℕ → List
 CardEnd m n end count rows (Ok t) = (end ≡ finished (take t rows)) × Table (card-kind m n) rows t
 CardEnd m n end count rows (Err e) = (t : FullTable) × (end ≡ stopped t) × (e ≡ card-fault t) × (rows ≡ replicate count (blank (card-kind m n)))
 
--- it is that of the working with the duals of the field's bits
+-- where a number is answered, the card table holds the card
+abbrev pub Made : FieldData → ℕ → List (Term NetSet) → List (Term (List ℕ)) → Result ℕ Fault → Type 0
+Made m n bits rows (Ok t) = CardOf m n bits (take t rows)
+Made m n bits rows (Err e) = Unit {0}
+
+-- the answer to a call with product tables of `cap` rows and a card table of `count` rows, which are `rows` then
 pub record CardAnswered (m : FieldData) (n cap count : ℕ) (bits : List (Term NetSet)) (rows : List (Term (List ℕ))) (answer : Result ℕ Fault) : Type 0 where
+  -- it is that of the working with the duals of the field's bits
   pub dual : ℕ → ℕ
   pub duals : (i : ℕ) → i < m .width → Dual m i (dual i)
   pub worked : CardEnd m n (card-working m n dual cap count bits) count rows answer
+  -- what a bit form with codes of the field ends in is its card
+  pub made : Codes (λ c. c < size m) bits → Made m n bits rows answer
+  -- q^n rows suffice in each table
+  pub enough : size m ^ n ≤ cap → size m ^ n ≤ count → isOk answer ≡ true
+  -- a working that ends, ends the same with more rows
+  pub more : (cap′ count′ : ℕ) → cap ≤ cap′ → count ≤ count′ → (card : List (Term (List ℕ))) → card-working m n dual cap count bits ≡ finished card
+      → card-working m n dual cap′ count′ bits ≡ finished card

@@ -90,10 +90,10 @@ module _ {M : Type 0} (k : KindModel M) (L : KindLaws k) (P : M → Type 0) (N :
         record { terms = r .terms; is = ap (λ (y : Ended M). then y (multiplying k mul cap fs)) (x .is) ∙ r .is; falling = r .falling; monos = r .monos }
 
     pub converting-ends : {S : Type 0} (rcap : ℕ) → N ≤ rcap → (factors : S → List (List (Term M))) → ((s : S) → A.All (Monos P) (factors s))
-        → (ss : List (Term S)) (rs : List (Term M)) → Falling k rs → Monos P rs → (us : List (Term M)) × (converting k mul cap rcap factors ss rs ≡ finished us) × Monos P us
-    converting-ends rcap r factors own [] rs f u = (rs, refl, u)
+        → (ss : List (Term S)) (rs : List (Term M)) → Falling k rs → Monos P rs → (us : List (Term M)) × (converting k mul cap rcap factors ss rs ≡ finished us) × Falling k us × Monos P us
+    converting-ends rcap r factors own [] rs f u = (rs, refl, f, u)
     converting-ends rcap r factors own (s ∷ ss) rs f u =
         let x = expanding-ends (s .code) (factors (s .mono)) (own (s .mono)) in
         let y = adding-ends rcap r (x .terms) rs (x .monos) f u in
         let z = converting-ends rcap r factors own ss (y .terms) (y .falling) (y .monos) in
-        (z .0, ap (λ (e : Ended M). joined k rcap e rs (converting k mul cap rcap factors ss)) (x .is) ∙ ap (λ (e : Ended M). noted e (converting k mul cap rcap factors ss)) (y .is) ∙ z .1, z .2)
+        (z .0, ap (λ (e : Ended M). joined k rcap e rs (converting k mul cap rcap factors ss)) (x .is) ∙ ap (λ (e : Ended M). noted e (converting k mul cap rcap factors ss)) (y .is) ∙ z .1, z .2, z .3)

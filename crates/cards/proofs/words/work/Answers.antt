@@ -8,6 +8,7 @@ use Rattle.terms.specs.Kind.{KindModel}
 use Rattle.terms.specs.Terms.{Monos, blank}
 use Rattle.cards.specs.Sums.{card-kind}
 use Rattle.cards.proofs.Blocks.{whole, answered-by}
+use Rattle.cards.proofs.CardLaw.{answered-ok, answered-err}
 use Rattle.cards.proofs.words.work.Needs as need
 
 pub convert-requires : need.convert-requires
@@ -27,14 +28,15 @@ returns-in-Ok g c =
     let b = c .bit-sums-sums .ensures in
     let e = c .exponent-rows-kind .ensures in
     let x = c .in-Ok .ensures tt in
+    let cap = min (length (c .args .first .now)) (length (c .args .second .now)) in
+    let count = length (c .args .card .now) in
+    let rows = c .convert .last .result in
+    let t = c .in-Ok .terms in
     record {
       first = x .first ∙ ap (λ k. replicate (length (c .args .first .now)) (blank k)) e;
       second = x .second ∙ ap (λ k. replicate (length (c .args .second .now)) (blank k)) e;
-      card = record {
-        dual = b .dual;
-        duals = b .duals;
-        worked = answered-by m l (c .args .n) (c .bit-sums-sums .result) (c .pre) b _ (c .width-width .result) (min (length (c .args .first .now)) (length (c .args .second .now))) (length (c .args .card .now)) (c .args .bits .now) (c .convert .last .result) (Ok (c .in-Ok .terms)) e (c .width-width .ensures) (x .worked);
-      };
+      card = answered-ok m l (c .args .n) (c .pre) (b .dual) (b .duals) cap count (c .args .bits .now) rows t
+          (answered-by m l (c .args .n) (c .bit-sums-sums .result) (c .pre) b _ (c .width-width .result) cap count (c .args .bits .now) rows (Ok t) e (c .width-width .ensures) (x .worked));
     }
 
 pub returns-in-Err : need.returns-in-Err
@@ -44,9 +46,13 @@ returns-in-Err g c =
     let b = c .bit-sums-sums .ensures in
     let e = c .exponent-rows-kind .ensures in
     let x = c .in-Err .ensures tt in
-    let a = answered-by m l (c .args .n) (c .bit-sums-sums .result) (c .pre) b _ (c .width-width .result) (min (length (c .args .first .now)) (length (c .args .second .now))) (length (c .args .card .now)) (c .args .bits .now) (c .convert .last .result) (Err (c .in-Err .full)) e (c .width-width .ensures) (x .worked) in
+    let cap = min (length (c .args .first .now)) (length (c .args .second .now)) in
+    let count = length (c .args .card .now) in
+    let rows = c .convert .last .result in
+    let t = c .in-Err .full in
     record {
       first = x .first ∙ ap (λ k. replicate (length (c .args .first .now)) (blank k)) e;
       second = x .second ∙ ap (λ k. replicate (length (c .args .second .now)) (blank k)) e;
-      card = record { dual = b .dual; duals = b .duals; worked = (c .in-Err .full, a .0, c .refusal .ensures, a .1) };
+      card = answered-err m l (c .args .n) (c .pre) (b .dual) (b .duals) cap count (c .args .bits .now) rows t (c .refusal .result) (c .refusal .ensures)
+          (answered-by m l (c .args .n) (c .bit-sums-sums .result) (c .pre) b _ (c .width-width .result) cap count (c .args .bits .now) rows (Err t) e (c .width-width .ensures) (x .worked));
     }
