@@ -1,0 +1,122 @@
+-- The sums of the places, by their terms. Assumes nothing.
+use mathlib.Core.Path.{_≡_, refl, sym, ap, ap₂, subst, subst₂, _∙_}
+use mathlib.Core.Bool.{Bool, true, false, cond, _&&_}
+use mathlib.Core.List.{List, [], _∷_, _++_}
+use mathlib.Core.Logic.{⊎-elim}
+use Prim.Native.Nat.{ℕ, zero, suc, _+_, _-_, _*_, _/_, _%_, _^_, _<_, _≤_}
+use native.Mathlib.Nat.{mod-lt, div-lt-iff-lt-mul, mul-le-mul, mul-le-mul-right}
+use native.Mathlib.Numerals.{add-one}
+use native.Mathlib.Omega.{arith}
+use lib.Arith.{digits-div, digits-mod, digits-lt}
+use lib.Dec.{leb, ltb}
+use lib.ListN.{length, getD, set, take, drop, replicate, length-drop}
+use lib.Pow.{pow-lt, pow-pos, le-ones}
+use lib.Seq.{getD-drop}
+use Rattle.std.proofs.shelf.Lists.{take-more}
+use Rattle.std.proofs.shelf.Tests.{le-leb, lt-ltb, and-from, cond-true, cond-false, cases-bool}
+use Rattle.algebra.specs.Field.{FieldData, FieldLaws, size, product}
+use Rattle.algebra.specs.Ops.{atRow}
+use Rattle.std.specs.declared.result.Result.{Result}
+use Rattle.terms.specs.Exps.{limit, tops-of}
+use Rattle.terms.specs.Kind.{KindModel}
+use Rattle.terms.specs.Numbers.{inside}
+use Rattle.terms.specs.Terms.{Monos}
+use Rattle.terms.specs.declared.Term.{Term}
+use Rattle.terms.specs.declared.nets.NetSet.{NetSet}
+use Rattle.convert.specs.Convert.{block, chosen, Answered}
+use Rattle.terms.specs.Sets.{holds}
+use Rattle.convert.specs.declared.FullTable.{FullTable}
+use Rattle.cards.specs.Sums.{bit-term, bit-sum, sums-term, card-kind, BitSums}
+use Rattle.cards.specs.Working.{bit-factors}
+
+-- ---- own rows
+pub monos-set : {M : Type 0} (P : M → Type 0) (ts : List (Term M)) (i : ℕ) (t : Term M) → Monos P ts → P (t .mono) → Monos P (set ts i t)
+monos-set P [] i t u h = tt
+monos-set P (s ∷ ts) zero t u h = (h, u .1)
+monos-set P (s ∷ ts) (suc i) t u h = (u .0, monos-set P ts i t (u .1) h)
+
+pub monos-replicate : {M : Type 0} (P : M → Type 0) (n : ℕ) (t : Term M) → P (t .mono) → Monos P (replicate n t)
+monos-replicate P zero t h = tt
+monos-replicate P (suc n) t h = (h, monos-replicate P n t h)
+
+zero-leb : (x : ℕ) → leb 0 x ≡ true
+zero-leb x = le-leb 0 x (omega arith)
+
+at-inside : (a b c w e : ℕ) → w < 3 → e ≤ getD (a ∷ (b ∷ (c ∷ []))) w 0 → inside (a ∷ (b ∷ (c ∷ []))) (atRow 3 w e) ≡ true
+at-inside a b c zero e h l = and-from (leb e a) _ (le-leb e a l) (and-from (leb 0 b) _ (zero-leb b) (and-from (leb 0 c) true (zero-leb c) refl))
+at-inside a b c (suc zero) e h l = and-from (leb 0 a) _ (zero-leb a) (and-from (leb e b) _ (le-leb e b l) (and-from (leb 0 c) true (zero-leb c) refl))
+at-inside a b c (suc (suc zero)) e h l = and-from (leb 0 a) _ (zero-leb a) (and-from (leb 0 b) _ (zero-leb b) (and-from (leb e c) true (le-leb e c l) refl))
+at-inside a b c (suc (suc (suc w))) e h l = absurd (omega arith)
+
+limit-at : (q n w : ℕ) → w < n → n ≤ 3 → getD (tops-of q n) w 0 ≡ q - 1
+limit-at q n zero h l = cond-true (ltb 0 n) (q - 1) 0 (lt-ltb 0 n h)
+limit-at q n (suc zero) h l = cond-true (ltb 1 n) (q - 1) 0 (lt-ltb 1 n h)
+limit-at q n (suc (suc zero)) h l = cond-true (ltb 2 n) (q - 1) 0 (lt-ltb 2 n h)
+limit-at q n (suc (suc (suc w))) h l = absurd (omega arith)
+
+pub row-own : (m : FieldData) (n w j : ℕ) → w < n → n ≤ 3 → j < m .width → card-kind m n .own (atRow 3 w (2 ^ j)) ≡ true
+row-own m n w j h l k =
+    let q = size m in
+    let e : 2 ^ j ≤ q - 1 = le-ones (m .width) (pow-lt k) in
+    at-inside (limit q n 0) (limit q n 1) (limit q n 2) w (2 ^ j) (omega arith) (subst (λ x. 2 ^ j ≤ x) (sym (limit-at q n w h l)) e)
+
+-- ---- places
+pub word-below : (n k t : ℕ) → 0 < k → t < n * k * k → t / k / k < n
+word-below n k t h l = div-lt-iff-lt-mul h .1 (div-lt-iff-lt-mul h .1 l)
+
+pub few-terms : (n k : ℕ) → n ≤ 3 → k ≤ 8 → n * k * k ≤ 192
+few-terms n k h l = mul-le-mul (mul-le-mul h l) l
+
+-- ---- blocks
+module _ (m : FieldData) (l : FieldLaws m) (d : ℕ → ℕ) (n : ℕ) (sums : List (Term (List ℕ)))
+    (long : n * m .width * m .width ≤ length sums)
+    (terms : (t : ℕ) → t < n * m .width * m .width → (x : Term (List ℕ)) → getD sums t x ≡ sums-term m d t) where
+  wp : 0 < m .width
+  wp = let h = l .narrow in omega arith
+
+  -- the term at place p, number j
+  here : (p j : ℕ) → p < n * m .width → j < m .width → (x : Term (List ℕ)) → getD sums (p * m .width + j) x ≡ bit-term m (p / m .width) (d (p % m .width)) j
+  here p j h k x =
+      terms (p * m .width + j) (digits-lt h k) x
+      ∙ ap₂ (λ a b. bit-term m (a / m .width) (d (a % m .width)) b) (digits-div p k) (digits-mod p k)
+
+  front : (p : ℕ) → p < n * m .width → (j : ℕ) → j ≤ m .width → take j (drop (p * m .width) sums) ≡ bit-sum m (p / m .width) (d (p % m .width)) j
+  front p h zero u = refl
+  front p h (suc j) u =
+      let x = bit-term m (p / m .width) (d (p % m .width)) j in
+      let rest = drop (p * m .width) sums in
+      let fits : p * m .width + j < n * m .width * m .width = digits-lt h u in
+      let lr : length rest ≡ length sums - p * m .width = length-drop (p * m .width) sums in
+      let lt : j < length rest = omega (arith, lr, fits, long) in
+      let s : suc j ≡ j + 1 = omega arith in
+      ap (λ i. take i rest) s ∙ take-more rest j x lt
+      ∙ ap₂ (λ a b. a ++ (b ∷ [])) (front p h j (omega arith)) (getD-drop (p * m .width) sums j x ∙ here p j h u x)
+
+  -- block p is the sum for the bit of place p
+  pub block-is : (p : ℕ) → p < n * m .width → block (m .width) sums p ≡ bit-sum m (p / m .width) (d (p % m .width)) (m .width)
+  block-is p h = front p h (m .width) (omega arith)
+
+-- the same factors chosen
+pub chosen-same : {M : Type 0} (held : ℕ → Bool) (f g : ℕ → List (Term M)) (places : ℕ) → ((p : ℕ) → p < places → f p ≡ g p)
+    → (i n : ℕ) → i + n ≤ places → chosen held f i n ≡ chosen held g i n
+chosen-same held f g places e i zero h = refl
+chosen-same held f g places e i (suc n) h =
+    let rest = chosen-same held f g places e (suc i) n (omega arith) in
+    ap₂ (λ x y. cond (held i) (x ∷ y) y) (e i (omega arith)) rest
+
+-- an answer by the sums is one by the factors of the bits
+module _ (m : FieldData) (l : FieldLaws m) (n : ℕ) (sums : List (Term (List ℕ))) (h : n ≤ 3) (b : BitSums m n sums) where
+  pub whole : n * m .width * m .width ≤ length sums
+  whole = let f = few-terms n (m .width) h (l .wide) in omega (arith, b .count)
+
+  factors-same : Path (NetSet → List (List (Term (List ℕ)))) (λ s. chosen (holds s) (block (m .width) sums) 0 (n * m .width)) (bit-factors m n (b .dual))
+  factors-same = λ i s.
+      chosen-same (holds s) (block (m .width) sums) (λ p. bit-sum m (p / m .width) (b .dual (p % m .width)) (m .width)) (n * m .width)
+        (block-is m l (b .dual) n sums whole (b .terms)) 0 (n * m .width) (omega arith) i
+
+  pub answered-by : (k : KindModel (List ℕ)) (w cap count : ℕ) (bits : List (Term NetSet)) (rows : List (Term (List ℕ))) (r : Result ℕ FullTable) → k ≡ card-kind m n → w ≡ m .width
+      → Answered k (product m) cap count (λ s. chosen (holds s) (block w sums) 0 (n * w)) bits rows r
+      → Answered (card-kind m n) (product m) cap count (bit-factors m n (b .dual)) bits rows r
+  answered-by k w cap count bits rows r ek ew a =
+      subst (λ f. Answered (card-kind m n) (product m) cap count f bits rows r) factors-same
+        (subst₂ (λ (x : KindModel (List ℕ)) (v : ℕ). Answered x (product m) cap count (λ s. chosen (holds s) (block v sums) 0 (n * v)) bits rows r) ek ew a)

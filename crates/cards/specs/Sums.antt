@@ -1,0 +1,44 @@
+-- A bit of a word, as a sum of powers of the word. Assumes nothing.
+use mathlib.Core.Path.{_≡_}
+use mathlib.Core.Bool.{true}
+use mathlib.Core.List.{List, [], _∷_, _++_}
+use Prim.Native.Nat.{ℕ, zero, suc, _/_, _%_, _*_, _^_, _<_}
+use lib.ListN.{getD, length}
+use Rattle.algebra.specs.Codes.{power, Dual}
+use Rattle.algebra.specs.Field.{FieldData, size}
+use Rattle.algebra.specs.Ops.{atRow}
+use Rattle.terms.specs.Exps.{exp-model, tops-of}
+use Rattle.terms.specs.Kind.{KindModel}
+use Rattle.terms.specs.Terms.{term, Monos}
+use Rattle.terms.specs.declared.Term.{Term}
+
+-- term j of the sum for a bit of word w with the dual δ: δ^(2^j), with the word to the power 2^j
+abbrev pub bit-term : FieldData → ℕ → ℕ → ℕ → Term (List ℕ)
+bit-term m w δ j = term (power m δ (2 ^ j)) (atRow 3 w (2 ^ j))
+
+-- the first n terms of that sum, j rising
+abbrev pub bit-sum : FieldData → ℕ → ℕ → ℕ → List (Term (List ℕ))
+bit-sum m w δ zero = []
+bit-sum m w δ (suc n) = bit-sum m w δ n ++ (bit-term m w δ n ∷ [])
+
+-- term t of the sums of all places, k terms each: place p is bit p % k of word p / k, and d i the dual of bit i
+abbrev pub sums-term : FieldData → (ℕ → ℕ) → ℕ → Term (List ℕ)
+sums-term m d t = bit-term m (t / m .width / m .width) (d (t / m .width % m .width)) (t % m .width)
+
+-- in row i, the dual of bit i to the powers 1, 2, 4, …
+pub record DualSquares (m : FieldData) (rows : List (List ℕ)) : Type 0 where
+  pub dual : ℕ → ℕ
+  pub duals : (i : ℕ) → i < m .width → Dual m i (dual i)
+  pub powers : (i j : ℕ) → i < m .width → j < 8 → getD (getD rows i []) j 0 ≡ power m (dual i) (2 ^ j)
+
+-- the exponent rows of n words: exponents up to q − 1, and 0 past word n
+abbrev pub card-kind : FieldData → ℕ → KindModel (List ℕ)
+card-kind m n = exp-model (tops-of (size m) n)
+
+-- the sums of the bits of n words, with the duals
+pub record BitSums (m : FieldData) (n : ℕ) (sums : List (Term (List ℕ))) : Type 0 where
+  pub dual : ℕ → ℕ
+  pub duals : (i : ℕ) → i < m .width → Dual m i (dual i)
+  pub count : length sums ≡ 192
+  pub terms : (t : ℕ) → t < n * m .width * m .width → (x : Term (List ℕ)) → getD sums t x ≡ sums-term m dual t
+  pub own : Monos (λ r. card-kind m n .own r ≡ true) sums
