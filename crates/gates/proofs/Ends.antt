@@ -21,14 +21,15 @@ use Rattle.terms.proofs.BothKinds.{net-laws}
 use Rattle.netlist.specs.declared.gate.Gate.{Gate}
 use Rattle.netlist.specs.declared.gate.Gate.the-variants.{And, Or, Xor, Nand, Nor, Xnor, Not, Buf, Zero, One}
 use Rattle.netlist.specs.Circuits.{Circuit, WellFormed, Below, Driven, nets-of, inputs, nets}
-use Rattle.netlist.specs.Meaning.{tail, parity, bit, word, output}
+use Rattle.netlist.specs.Meaning.{tail, parity, bit, word, output, input-bits}
 use Rattle.netlist.proofs.Formed.{few-nets, driven-reads}
+use Rattle.netlist.proofs.Inputs.{inputs-placed}
 use Rattle.netlist.proofs.Meanings.{tails-agree, kept}
 use Rattle.terms.specs.Sets.{holds, among, Own, Within, Top, SetOf, Greatest, Net-laws}
 use Rattle.terms.specs.Additions.{Ended, done, full, adding}
 use Rattle.gates.specs.Reductions.{OutTerms, Put, TailTerms, Reduces, empty, bits, stops, step, Worked, goes}
 use Rattle.terms.specs.Values.{every, set-on, value-at}
-use Rattle.gates.specs.Forms.{Terms-of, Keeps, Bit-form, Right-end}
+use Rattle.gates.specs.Forms.{Terms-of, Keeps, Bit-form, Right-end, bit-at, Value-at-words}
 use Rattle.gates.proofs.Lit.{every-same, on-among}
 use Rattle.terms.proofs.Additions.{Terms-all, adding-keeps}
 use Rattle.gates.proofs.Kept.{All-below, value-at-adding, value-at-step}
@@ -227,3 +228,15 @@ module _ (N : Net-laws) where
         codes = k .0 .codes;
         right = λ ins l. value-at-agree (λ g. getD ins g false) (bit c ins) (inputs c) (λ i h. sym (kept ins (c .gates) i (omega arith))) xs (k .1) ∙ k .2 ins l ∙ at-first ins l;
       }
+
+-- ---- at input words
+pub value-at-words : Value-at-words
+value-at-words c us xs w b l =
+    let k = c .width in
+    let ins = input-bits k xs in
+    let placed = inputs-placed k xs in
+    let many : length ins ≡ inputs c = placed .many ∙ ap (λ n. n * k) l in
+    let all : length xs * k ≡ inputs c = ap (λ n. n * k) l in
+    value-at-agree (bit-at k xs) (λ g. getD ins g false) (inputs c)
+      (λ i h. sym (sym (kept ins (c .gates) i (omega arith)) ∙ placed .bit-of-net c i (omega arith))) us (b .no-gate)
+    ∙ b .right ins many

@@ -5,7 +5,7 @@ mod work;
 ghost use lib.ListN.{length};
 ghost use Rattle.netlist.specs.Netlists.{circuit};
 ghost use Rattle.gates.specs.Answers.{Answered};
-ghost use Rattle.gates.specs.Forms.{Values-kept, Steps-keep, Only-form, One-end, More-rows, Enough-rows, Always-ends};
+ghost use Rattle.gates.specs.Forms.{Values-kept, Steps-keep, Value-at-words, Only-form, One-end, More-rows, Enough-rows, Always-ends};
 
 use fault::Fault;
 use netlist::circuit::Netlist;
@@ -29,6 +29,7 @@ pub fn bit_form(net: &Netlist, rows: &mut [Term<NetSet>]) -> Result<usize, Fault
 pub fn working_stands()
     ensures keeps { λ _. ⌜ Steps-keep ⌝ }
     ensures values { λ _. ⌜ Values-kept ⌝ }
+    ensures words { λ _. ⌜ Value-at-words ⌝ }
     ensures sole { λ _. ⌜ Only-form ⌝ }
     ensures one { λ _. ⌜ One-end ⌝ }
     ensures more { λ _. ⌜ More-rows ⌝ }
