@@ -42,9 +42,9 @@ pub data Reduces (c : Circuit) (cap : ℕ) : List (Term NetSet) → Ended NetSet
   empty : Reduces c cap [] (done [])
   bits : (t : Term NetSet) (ts : List (Term NetSet)) → Within (inputs c) (t .mono) → Reduces c cap (t ∷ ts) (done (t ∷ ts))
   stops : (t : Term NetSet) (ts adds us : List (Term NetSet)) (g : ℕ) → Top (t .mono) g → inputs c ≤ g → TailTerms (t .code) (t .mono) g (tail (getD (c .gates) (g - inputs c) Zero)) adds →
-    adding net-model cap adds ts ≡ full us → Reduces c cap (t ∷ ts) (full us)
+      adding net-model cap adds ts ≡ full us → Reduces c cap (t ∷ ts) (full us)
   step : (t : Term NetSet) (ts adds us : List (Term NetSet)) (g : ℕ) (e : Ended NetSet) → Top (t .mono) g → inputs c ≤ g → TailTerms (t .code) (t .mono) g (tail (getD (c .gates) (g - inputs c) Zero)) adds →
-    adding net-model cap adds ts ≡ done us → Reduces c cap us e → Reduces c cap (t ∷ ts) e
+      adding net-model cap adds ts ≡ done us → Reduces c cap us e → Reduces c cap (t ∷ ts) e
 
 -- What the whole working ends in, from the empty table: the output terms are added first, and where each of them finds
 -- a row the working goes on with what they make.
