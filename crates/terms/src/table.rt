@@ -52,6 +52,16 @@ fn close_row<M: Copy>(rows: &mut [Term<M>], at: usize, len: usize, z: Term<M>)
     rows[len - 1] = z;
 }
 
+// The row that stands where there is no term: code 0 and the unit.
+fn zero_row<M: Copy, K: Kind<M>>(kind: &K) -> Term<M>
+    ensures { λ r. ⌜ r ≡ blank (model (now (kind .entry))) ⌝ }
+{
+    Term {
+        code: 0,
+        mono: kind.unit(),
+    }
+}
+
 // No row is free.
 #[derive(Clone, Copy)]
 pub struct Full;
@@ -74,15 +84,7 @@ fn add_row<M: Copy, K: Kind<M>>(
     if at < len && !kind.less(rows[at].mono, mono) {
         let sum = rows[at].code ^ code;
         if sum == 0 {
-            close_row(
-                rows,
-                at,
-                len,
-                Term {
-                    code: 0,
-                    mono: kind.unit(),
-                },
-            );
+            close_row(rows, at, len, zero_row(kind));
             Ok(len - 1)
         } else {
             rows[at].code = sum;
@@ -100,10 +102,7 @@ fn add_row<M: Copy, K: Kind<M>>(
 pub fn clear_rows<M: Copy, K: Kind<M>>(kind: &K, rows: &mut [Term<M>])
     ensures { λ _. ⌜ now (rows .exit) ≡ replicate (length (now (rows .entry))) (blank (model (now (kind .entry)))) ⌝ }
 {
-    let zero = Term {
-        code: 0,
-        mono: kind.unit(),
-    };
+    let zero = zero_row(kind);
     for row in rows.iter_mut() {
         *row = zero;
     }
@@ -116,11 +115,7 @@ fn take_first<M: Copy, K: Kind<M>>(kind: &K, rows: &mut [Term<M>], len: usize) -
     ensures { λ r. ⌜ TookFirst (model (now (kind .entry))) (now (rows .entry)) len r (now (rows .exit)) (len - 1) ⌝ }
 {
     let lead = rows[0];
-    let zero = Term {
-        code: 0,
-        mono: kind.unit(),
-    };
-    close_row(rows, 0, len, zero);
+    close_row(rows, 0, len, zero_row(kind));
     lead
 }
 
