@@ -21,14 +21,15 @@ use Rattle.terms.proofs.BothKinds.{net-laws}
 use Rattle.netlist.specs.declared.gate.Gate.{Gate}
 use Rattle.netlist.specs.declared.gate.Gate.the-variants.{And, Or, Xor, Nand, Nor, Xnor, Not, Buf, Zero, One}
 use Rattle.netlist.specs.Circuits.{Circuit, WellFormed, Below, Driven, nets-of, inputs, nets}
-use Rattle.netlist.specs.Meaning.{tail, parity, bit, word, output}
+use Rattle.netlist.specs.Meaning.{tail, parity, bit, word, output, input-bits}
 use Rattle.netlist.proofs.Formed.{few-nets, driven-reads}
+use Rattle.netlist.proofs.Inputs.{inputs-placed}
 use Rattle.netlist.proofs.Meanings.{tails-agree, kept}
 use Rattle.terms.specs.Sets.{holds, among, Own, Within, Top, SetOf, Greatest, Net-laws}
 use Rattle.terms.specs.Additions.{Ended, done, full, adding}
 use Rattle.gates.specs.Reductions.{OutTerms, Put, TailTerms, Reduces, empty, bits, stops, step, Worked, goes}
 use Rattle.terms.specs.Values.{every, set-on, value-at}
-use Rattle.gates.specs.Forms.{Terms-of, Keeps, Bit-form, Right-end}
+use Rattle.gates.specs.Forms.{Terms-of, Keeps, Bit-form, Right-end, bit-at, Value-at-words}
 use Rattle.gates.proofs.Lit.{every-same, on-among}
 use Rattle.terms.proofs.Additions.{Terms-all, adding-keeps}
 use Rattle.gates.proofs.Kept.{All-below, value-at-adding, value-at-step}
@@ -66,13 +67,13 @@ among-below n h (x ∷ xs) b e =
 pub put-within : (s : NetSet) (g : ℕ) (xs : List ℕ) (u : NetSet) → Top s g → Below g xs → Put s g xs u → Within g u
 put-within s g xs u top b p h e =
     ⊎-elim
-      (λ q. let r = and-parts (holds s h) (not (eqb h g)) q in
-        ⊎-elim
-          (λ same. never (sym (r .1) ∙ ap not (eq-eqb h g same)))
-          (⊎-elim (λ l. l) (λ l. never (sym (r .0) ∙ top .above h l)))
-          (cases-order h g))
-      (λ q. among-below g h xs b q)
-      (or-cases (holds s h && not (eqb h g)) (among h xs) (sym (p .members h) ∙ e))
+    (λ q. let r = and-parts (holds s h) (not (eqb h g)) q in
+    ⊎-elim
+    (λ same. never (sym (r .1) ∙ ap not (eq-eqb h g same)))
+    (⊎-elim (λ l. l) (λ l. never (sym (r .0) ∙ top .above h l)))
+    (cases-order h g))
+    (λ q. among-below g h xs b q)
+    (or-cases (holds s h && not (eqb h g)) (among h xs) (sym (p .members h) ∙ e))
 
 -- what each term that comes in has
 abbrev pub Comes : ℕ → ℕ → Term NetSet → Type 0
@@ -88,21 +89,22 @@ pub out-comes : (k n i : ℕ) (xs : List ℕ) (ts : List (Term NetSet)) → i + 
 out-comes k n i [] [] f b w = tt
 out-comes k n i [] (t ∷ ts) f b w = absurd w
 out-comes k n i (x ∷ xs) [] f b w = absurd w
-out-comes k n i (x ∷ xs) (t ∷ ts) f b w =
-    ((w .1 .own, λ h e. among-below n h (x ∷ []) (b .0, tt) (sym (w .1 .members h) ∙ e), subst (λ y. y < 2 ^ k) (sym (w .0)) (pow-lt {i = i} {j = k} (omega arith))),
-     out-comes k n (suc i) xs ts (omega arith) (b .1) (w .2))
+out-comes k n i (x ∷ xs) (t ∷ ts) f b w = (
+  (w .1 .own, λ h e. among-below n h (x ∷ []) (b .0, tt) (sym (w .1 .members h) ∙ e), subst (λ y. y < 2 ^ k) (sym (w .0)) (pow-lt {i = i} {j = k} (omega arith))),
+  out-comes k n (suc i) xs ts (omega arith) (b .1) (w .2),
+)
 
 -- additions of such terms leave such terms
 pub adding-terms : (c : Circuit) (cap n : ℕ) → n ≤ inputs c + length (c .gates) → (adds ts us : List (Term NetSet)) → Terms-all (Comes (c .width) n) adds → Terms-of c ts → adding net-model cap adds ts ≡ done us → Terms-of c us
 adding-terms c cap n l =
     adding-keeps net-model cap (Comes (c .width) n) (Terms-of c)
-      (λ t xs q r. record {
-        own = added-monos net-model net-laws Own (t .code) (t .mono) (q .0) xs (r .own);
-        falling = added-falling net-model net-laws (t .code) (t .mono) xs (r .falling);
-        nonzero = added-nonzero net-model net-laws (t .code) (t .mono) xs (r .nonzero);
-        driven = added-monos net-model net-laws (Within (inputs c + length (c .gates))) (t .code) (t .mono) (λ g e. let h = q .1 g e in omega arith) xs (r .driven);
-        codes = added-codes net-model net-laws (λ a. a < 2 ^ c .width) (t .code) (t .mono) (xor-lt (c .width)) (q .2) xs (r .codes);
-      })
+    (λ t xs q r. record {
+      own = added-monos net-model net-laws Own (t .code) (t .mono) (q .0) xs (r .own);
+      falling = added-falling net-model net-laws (t .code) (t .mono) xs (r .falling);
+      nonzero = added-nonzero net-model net-laws (t .code) (t .mono) xs (r .nonzero);
+      driven = added-monos net-model net-laws (Within (inputs c + length (c .gates))) (t .code) (t .mono) (λ g e. let h = q .1 g e in omega arith) xs (r .driven);
+      codes = added-codes net-model net-laws (λ a. a < 2 ^ c .width) (t .code) (t .mono) (xor-lt (c .width)) (q .2) xs (r .codes);
+    })
 
 -- ---- the start
 twice : (i : ℕ) → 2 ^ suc i ≡ 2 ^ i * 2
@@ -168,9 +170,9 @@ module _ (N : Net-laws) where
   less-within n s t os ot l w h e =
       let r = N .order s t os ot .0 l in
       ⊎-elim
-        (λ same. never (sym e ∙ ap (holds s) same ∙ r .1 .lacks))
-        (⊎-elim (λ m. let k = w (r .0) (r .1 .has) in omega arith) (λ m. w h (sym (r .1 .above h m) ∙ e)))
-        (cases-order h (r .0))
+      (λ same. never (sym e ∙ ap (holds s) same ∙ r .1 .lacks))
+      (⊎-elim (λ m. let k = w (r .0) (r .1 .has) in omega arith) (λ m. w h (sym (r .1 .above h m) ∙ e)))
+      (cases-order h (r .0))
 
   pub under-within : (n : ℕ) (m : NetSet) → Own m → Within n m → (ts : List (Term NetSet)) → Monos Own ts → Under net-model m ts → Monos (Within n) ts
   under-within n m om w [] o u = tt
@@ -192,8 +194,8 @@ module _ (N : Net-laws) where
       let left : Terms-of c rest = record { own = r .own .1; falling = r .falling .1; nonzero = r .nonzero .1; driven = r .driven .1; codes = r .codes .1 } in
       let now : Terms-of c us = adding-terms c cap g (omega arith) adds rest us (tail-comes (c .width) (t .code) s g (r .codes .0) top (tail gate) adds reads tl) left don in
       let this : (ins : List Bool) → length ins ≡ inputs c → value-at (bit c ins) us ≡ value-at (bit c ins) (t ∷ rest) =
-            λ ins l. value-at-step (bit c ins) cap t rest adds us g (tail gate) few (top .has)
-              (ap (bit c ins) (sym at) ∙ tails-agree c ins (g - inputs c) w l j) (sets-more g 256 (omega arith) (tail gate) reads) tl don in
+      λ ins l. value-at-step (bit c ins) cap t rest adds us g (tail gate) few (top .has)
+      (ap (bit c ins) (sym at) ∙ tails-agree c ins (g - inputs c) w l j) (sets-more g 256 (omega arith) (tail gate) reads) tl don in
       after c (t ∷ rest) us d this (steps-keep c cap w us d next now)
     where
       after : (c : Circuit) (ts us : List (Term NetSet)) (e : Ended NetSet) → ((ins : List Bool) → length ins ≡ inputs c → value-at (bit c ins) us ≡ value-at (bit c ins) ts) → Keeps c us e → Keeps c ts e
@@ -227,3 +229,15 @@ module _ (N : Net-laws) where
         codes = k .0 .codes;
         right = λ ins l. value-at-agree (λ g. getD ins g false) (bit c ins) (inputs c) (λ i h. sym (kept ins (c .gates) i (omega arith))) xs (k .1) ∙ k .2 ins l ∙ at-first ins l;
       }
+
+-- ---- at input words
+pub value-at-words : Value-at-words
+value-at-words c us xs w b l =
+    let k = c .width in
+    let ins = input-bits k xs in
+    let placed = inputs-placed k xs in
+    let many : length ins ≡ inputs c = placed .many ∙ ap (λ n. n * k) l in
+    let all : length xs * k ≡ inputs c = ap (λ n. n * k) l in
+    value-at-agree (bit-at k xs) (λ g. getD ins g false) (inputs c)
+    (λ i h. sym (sym (kept ins (c .gates) i (omega arith)) ∙ placed .bit-of-net c i (omega arith))) us (b .no-gate)
+    ∙ b .right ins many

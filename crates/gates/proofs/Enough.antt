@@ -62,9 +62,9 @@ find-top : (s : NetSet) (n : ℕ) → ((h : ℕ) → n ≤ h → holds s h ≡ f
 find-top s zero a = inr (λ h. a h (omega arith))
 find-top s (suc n) a =
     ⊎-elim
-      (λ e. inl (n, record { has = e; above = λ h l. a h (omega arith) }))
-      (λ e. find-top s n (λ h l. ⊎-elim (λ q. ap (holds s) (sym q) ∙ e) (λ d. a h (omega arith)) (cases-eq n h)))
-      (cases-bool (holds s n))
+    (λ e. inl (n, record { has = e; above = λ h l. a h (omega arith) }))
+    (λ e. find-top s n (λ h l. ⊎-elim (λ q. ap (holds s) (sym q) ∙ e) (λ d. a h (omega arith)) (cases-eq n h)))
+    (cases-bool (holds s n))
 
 top-of : (s : NetSet) → Own s → ((g : ℕ) × Top s g) ⊎ ((h : ℕ) → holds s h ≡ false)
 top-of s o = find-top s 256 (λ h l. ⊎-elim (λ e. absurd (let m = laws-of-sets .few s o h e in omega arith)) (λ e. e) (cases-bool (holds s h)))
@@ -92,23 +92,23 @@ data Goes (c : Circuit) (t : Term NetSet) (rest : List (Term NetSet)) : Type 0 w
 goes-how : (c : Circuit) → WellFormed c → (t : Term NetSet) (rest : List (Term NetSet)) → Terms-of c (t ∷ rest) → Goes c t rest
 goes-how c w t rest r =
     ⊎-elim
-      (λ p. let g = p .0 in let top = p .1 in
-        ⊎-elim
-          (λ l. over (λ h e. ⊎-elim (λ m. never (sym e ∙ top .above h m)) (λ m. omega arith) (cases-lt g h)))
-          (λ low.
-            let s = t .mono in
-            let gate = getD (c .gates) (g - inputs c) Zero in
-            let high : g < inputs c + length (c .gates) = r .driven .0 g (top .has) in
-            let few = few-nets c w in
-            let j : g - inputs c < length (c .gates) = omega arith in
-            let reads : All-below 256 (tail gate) = sets-more (inputs c + (g - inputs c)) 256 (omega arith) (tail gate) (tail-below gate (inputs c + (g - inputs c)) (driven-reads (c .gates) (inputs c) (g - inputs c) (w .driven) j)) in
-            let out = taken-out s g (omega arith) (r .own .0) in
-            let x = out .0 in
-            on g (each (t .code) (joins x (tail gate))) top low
-              (joins-tail (t .code) s x g (out .1 .members) (tail gate) (joins x (tail gate)) (joined-lists x (tail gate) (out .1 .own) reads)))
-          (cases-lt g (inputs c)))
-      (λ a. over (λ h e. never (sym e ∙ a h)))
-      (top-of (t .mono) (r .own .0))
+    (λ p. let g = p .0 in let top = p .1 in
+    ⊎-elim
+    (λ l. over (λ h e. ⊎-elim (λ m. never (sym e ∙ top .above h m)) (λ m. omega arith) (cases-lt g h)))
+    (λ low.
+    let s = t .mono in
+    let gate = getD (c .gates) (g - inputs c) Zero in
+    let high : g < inputs c + length (c .gates) = r .driven .0 g (top .has) in
+    let few = few-nets c w in
+    let j : g - inputs c < length (c .gates) = omega arith in
+    let reads : All-below 256 (tail gate) = sets-more (inputs c + (g - inputs c)) 256 (omega arith) (tail gate) (tail-below gate (inputs c + (g - inputs c)) (driven-reads (c .gates) (inputs c) (g - inputs c) (w .driven) j)) in
+    let out = taken-out s g (omega arith) (r .own .0) in
+    let x = out .0 in
+    on g (each (t .code) (joins x (tail gate))) top low
+    (joins-tail (t .code) s x g (out .1 .members) (tail gate) (joins x (tail gate)) (joined-lists x (tail gate) (out .1 .own) reads)))
+    (cases-lt g (inputs c)))
+    (λ a. over (λ h e. never (sym e ∙ a h)))
+    (top-of (t .mono) (r .own .0))
 
 -- ---- some number of rows suffices
 enough : (c : Circuit) → WellFormed c → (n : ℕ) (ts : List (Term NetSet)) → Terms-of c ts → height ts ≤ n → (cap : ℕ) × (us : List (Term NetSet)) × Reduces c cap ts (done us)
@@ -116,16 +116,19 @@ enough c w n [] r l = (0, [], empty)
 enough c w zero (t ∷ rest) r l = absurd (not-suc-le-zero l)
 enough c w (suc n) (t ∷ rest) r l =
     elim (goes-how c w t rest r) [
-      over h ↦ (0, t ∷ rest, bits t rest h)
-    | on g adds top low tl ↦
-        let next = sums adds rest in
-        let one : adding net-model (wanted adds rest) adds rest ≡ done next = adding-all (wanted adds rest) adds rest (omega arith) in
-        let terms : Terms-of c next = turn-terms c w (wanted adds rest) t (t ∷ rest) rest adds next g refl top low tl r one in
-        let falls : height next < height (t ∷ rest) = turn-falls c w (wanted adds rest) t (t ∷ rest) rest adds next g refl top low tl r one in
-        let more = enough c w n next terms (omega arith) in
-        let cap = wanted adds rest + more .0 in
-        (cap, more .1, step t rest adds next g (done (more .1)) top low tl (adding-more net-model (wanted adds rest) cap (omega arith) adds rest next one)
-          (reduces-more c (more .0) cap (omega arith) next (done (more .1)) (more .2)))
+      | over h ↦ (0, t ∷ rest, bits t rest h)
+      | on g adds top low tl ↦
+          let next = sums adds rest in
+          let one : adding net-model (wanted adds rest) adds rest ≡ done next = adding-all (wanted adds rest) adds rest (omega arith) in
+          let terms : Terms-of c next = turn-terms c w (wanted adds rest) t (t ∷ rest) rest adds next g refl top low tl r one in
+          let falls : height next < height (t ∷ rest) = turn-falls c w (wanted adds rest) t (t ∷ rest) rest adds next g refl top low tl r one in
+          let more = enough c w n next terms (omega arith) in
+          let cap = wanted adds rest + more .0 in (
+            cap,
+            more .1,
+            step t rest adds next g (done (more .1)) top low tl (adding-more net-model (wanted adds rest) cap (omega arith) adds rest next one)
+                (reduces-more c (more .0) cap (omega arith) next (done (more .1)) (more .2)),
+          )
     ]
 
 pub enough-rows : Enough-rows
@@ -134,9 +137,12 @@ enough-rows c w =
     let first = sums outs [] in
     let one : adding net-model (wanted outs []) outs [] ≡ done first = adding-all (wanted outs []) outs [] (omega arith) in
     let more = enough c w (height first) first (starts c (wanted outs []) first w one) (omega arith) in
-    let cap = wanted outs [] + more .0 in
-    (cap, more .1, goes-on c cap first (done (more .1)) w (adding-more net-model (wanted outs []) cap (omega arith) outs [] first one)
-      (reduces-more c (more .0) cap (omega arith) first (done (more .1)) (more .2)))
+    let cap = wanted outs [] + more .0 in (
+      cap,
+      more .1,
+      goes-on c cap first (done (more .1)) w (adding-more net-model (wanted outs []) cap (omega arith) outs [] first one)
+          (reduces-more c (more .0) cap (omega arith) first (done (more .1)) (more .2)),
+    )
 
 -- ---- an end for every number of rows
 data Adds (cap : ℕ) (adds ts : List (Term NetSet)) : Type 0 where
@@ -155,23 +161,23 @@ ends c w cap n [] r l = (done [], empty)
 ends c w cap zero (t ∷ rest) r l = absurd (not-suc-le-zero l)
 ends c w cap (suc n) (t ∷ rest) r l =
     elim (goes-how c w t rest r) [
-      over h ↦ (done (t ∷ rest), bits t rest h)
-    | on g adds top low tl ↦
-        elim (adds-how cap adds rest) [
-          fits next one ↦
-            let terms : Terms-of c next = turn-terms c w cap t (t ∷ rest) rest adds next g refl top low tl r one in
-            let falls : height next < height (t ∷ rest) = turn-falls c w cap t (t ∷ rest) rest adds next g refl top low tl r one in
-            let more = ends c w cap n next terms (omega arith) in
-            (more .0, step t rest adds next g (more .0) top low tl one (more .1))
-        | fails us f ↦ (full us, stops t rest adds us g top low tl f)
-        ]
+      | over h ↦ (done (t ∷ rest), bits t rest h)
+      | on g adds top low tl ↦
+          elim (adds-how cap adds rest) [
+            | fits next one ↦
+                let terms : Terms-of c next = turn-terms c w cap t (t ∷ rest) rest adds next g refl top low tl r one in
+                let falls : height next < height (t ∷ rest) = turn-falls c w cap t (t ∷ rest) rest adds next g refl top low tl r one in
+                let more = ends c w cap n next terms (omega arith) in
+                (more .0, step t rest adds next g (more .0) top low tl one (more .1))
+            | fails us f ↦ (full us, stops t rest adds us g top low tl f)
+          ]
     ]
 
 pub always-ends : Always-ends
 always-ends c cap w =
     elim (adds-how cap (out-terms 0 (c .outs)) []) [
-      fits first one ↦
-        let more = ends c w cap (height first) first (starts c cap first w one) (omega arith) in
-        (more .0, goes-on c cap first (more .0) w one (more .1))
-    | fails us f ↦ (full us, stops-there c cap us w f)
+      | fits first one ↦
+          let more = ends c w cap (height first) first (starts c cap first w one) (omega arith) in
+          (more .0, goes-on c cap first (more .0) w one (more .1))
+      | fails us f ↦ (full us, stops-there c cap us w f)
     ]

@@ -100,15 +100,15 @@ module _ (c : Circuit) (w : WellFormed c) (cap : ℕ) (lead : Term NetSet) (ts r
   turn-terms don =
       let h = gate-high in
       adding-terms c cap g (omega arith) adds rest ts″ come
-        (record { own = led-terms .own .1; falling = led-terms .falling .1; nonzero = led-terms .nonzero .1; driven = led-terms .driven .1; codes = led-terms .codes .1 }) don
+      (record { own = led-terms .own .1; falling = led-terms .falling .1; nonzero = led-terms .nonzero .1; driven = led-terms .driven .1; codes = led-terms .codes .1 }) don
 
   pub turn-falls : adding net-model cap adds rest ≡ done ts″ → height ts″ < height ts
   turn-falls don =
       let o = led-terms .own .0 in
       let u : Under net-model (lead .mono) ts″ =
-            adding-keeps net-model cap (Comes (c .width) g) (Under net-model (lead .mono))
-              (λ t xs q v. added-under net-model net-laws (t .code) (t .mono) (lead .mono) (below-less (lead .mono) (t .mono) g o (q .0) top (q .1)) xs v)
-              adds rest ts″ come (led-terms .falling .0) don in
+      adding-keeps net-model cap (Comes (c .width) g) (Under net-model (lead .mono))
+      (λ t xs q v. added-under net-model net-laws (t .code) (t .mono) (lead .mono) (below-less (lead .mono) (t .mono) g o (q .0) top (q .1)) xs v)
+      adds rest ts″ come (led-terms .falling .0) don in
       subst (λ xs. height ts″ < height xs) (sym first) (height-under (lead .mono) o ts″ (turn-terms don .own) u)
 
   pub turn-on : (e : Ended NetSet) → adding net-model cap adds rest ≡ done ts″ → Reduces c cap ts″ e → Reduces c cap ts e

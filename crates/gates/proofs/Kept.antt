@@ -77,8 +77,8 @@ module _ (v : ℕ → Bool) where
   value-at-tail c s g (xs ∷ us) [] h b = absurd h
   value-at-tail c s g (xs ∷ us) (t ∷ adds) h b =
       ap₂ bitXor
-        (ap (λ x. cond (set-on v (t .mono)) x 0) (h .0) ∙ ap (λ x. cond x c 0) (set-on-put s g xs (t .mono) (h .1) (b .0)))
-        (value-at-tail c s g us adds (h .2) (b .1))
+      (ap (λ x. cond (set-on v (t .mono)) x 0) (h .0) ∙ ap (λ x. cond x c 0) (set-on-put s g xs (t .mono) (h .1) (b .0)))
+      (value-at-tail c s g us adds (h .2) (b .1))
       ∙ xor-cond (others s g) (all-on v xs) (parity v us) c
 
   -- one step: the leading term goes, and its gate's tail comes
@@ -87,5 +87,5 @@ module _ (v : ℕ → Bool) where
   value-at-step cap t ts adds us g tl l h p b w e =
       value-at-adding cap adds ts us e
       ∙ ap (λ x. bitXor x (value-at v ts))
-          (value-at-tail (t .code) (t .mono) g tl adds w b
-           ∙ ap (λ x. cond x (t .code) 0) (ap (λ x. others (t .mono) g && x) (sym p) ∙ sym (set-on-top (t .mono) g l h)))
+      (value-at-tail (t .code) (t .mono) g tl adds w b
+      ∙ ap (λ x. cond x (t .code) 0) (ap (λ x. others (t .mono) g && x) (sym p) ∙ sym (set-on-top (t .mono) g l h)))

@@ -54,9 +54,9 @@ unfolding every
 every-at zero g v l = absurd (not-suc-le-zero l)
 every-at (suc n) g v l =
     ⊎-elim
-      (λ e. ap₂ (λ x y. x && y) (ap (λ x. not x || v n) (eq-eqb n g e)) (every-low n g v (omega arith)) ∙ and-true (v n) ∙ ap v e)
-      (λ d. ap (λ x. (not x || v n) && every n (λ h. not (eqb h g) || v h)) (ne-eqb n g d) ∙ every-at n g v (omega arith))
-      (cases-eq n g)
+    (λ e. ap₂ (λ x y. x && y) (ap (λ x. not x || v n) (eq-eqb n g e)) (every-low n g v (omega arith)) ∙ and-true (v n) ∙ ap v e)
+    (λ d. ap (λ x. (not x || v n) && every n (λ h. not (eqb h g) || v h)) (ne-eqb n g d) ∙ every-at n g v (omega arith))
+    (cases-eq n g)
 
 -- ---- sets by their members: `on v a n` says that each net that a has, of those below n, has bit one
 abbrev on : (ℕ → Bool) → (ℕ → Bool) → ℕ → Bool
@@ -86,7 +86,7 @@ split-at false false f = refl
 pub on-split : (n : ℕ) (v a : ℕ → Bool) (g : ℕ) → g < n → a g ≡ true → on v a n ≡ (on v (λ h. a h && not (eqb h g)) n && v g)
 on-split n v a g l e =
     every-same n (λ h. not (a h) || v h) (λ h. not ((a h && not (eqb h g)) || eqb h g) || v h)
-      (λ h. ap (λ x. not x || v h) (split-at (a h) (eqb h g) (λ q. ap a (eqb-true h g q) ∙ e)))
+    (λ h. ap (λ x. not x || v h) (split-at (a h) (eqb h g) (λ q. ap a (eqb-true h g q) ∙ e)))
     ∙ on-or n v (λ h. a h && not (eqb h g)) (λ h. eqb h g)
     ∙ ap (λ x. on v (λ h. a h && not (eqb h g)) n && x) (every-at n g v l)
 

@@ -22,7 +22,6 @@ use Rattle.gates.specs.Reductions.{OutTerms, Put, TailTerms, Reduces, empty, b
 use Rattle.gates.specs.Forms.{One-end, More-rows}
 use Rattle.terms.proofs.Additions.{done-same, full-done, adding-more}
 
-
 never : {A : Type 0} → true ≡ false → A
 never e = absurd (true≢false e)
 

@@ -64,8 +64,8 @@ below-few c w = below-more (nets c) 256 (few-nets c w) (c .outs) (w .outputs)
 pub starts : (c : Circuit) (cap : ℕ) (us : List (Term NetSet)) → WellFormed c → adding net-model cap (out-terms 0 (c .outs)) [] ≡ done us → Terms-of c us
 starts c cap us w f =
     adding-terms c cap (nets c) (omega arith) (out-terms 0 (c .outs)) [] us
-      (out-comes (c .width) (nets c) 0 (c .outs) (out-terms 0 (c .outs)) (omega (arith, w .as-wide)) (w .outputs) (outs-are 0 (c .outs) (below-few c w)))
-      (record { own = tt; falling = tt; nonzero = tt; driven = tt; codes = tt }) f
+    (out-comes (c .width) (nets c) 0 (c .outs) (out-terms 0 (c .outs)) (omega (arith, w .as-wide)) (w .outputs) (outs-are 0 (c .outs) (below-few c w)))
+    (record { own = tt; falling = tt; nonzero = tt; driven = tt; codes = tt }) f
 
 pub goes-on : (c : Circuit) (cap : ℕ) (us : List (Term NetSet)) (e : Ended NetSet) → WellFormed c → adding net-model cap (out-terms 0 (c .outs)) [] ≡ done us → Reduces c cap us e → Worked c cap e
 goes-on c cap us e w f r = goes (out-terms 0 (c .outs)) us e (outs-are 0 (c .outs) (below-few c w)) f r

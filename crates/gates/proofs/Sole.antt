@@ -91,9 +91,9 @@ bits-at zero v g l = absurd (not-suc-le-zero l)
 bits-at (suc n) v g l =
     let e = bits-long n v in
     ⊎-elim
-      (λ q. ap (λ i. getD (bits-of n v ++ (v n ∷ [])) i false) q ∙ getD-at (bits-of n v) (v n) [] false n e ∙ ap v (sym q))
-      (λ d. getD-append-left (bits-of n v) (v n ∷ []) false g (omega arith) ∙ bits-at n v g (omega arith))
-      (cases-eq g n)
+    (λ q. ap (λ i. getD (bits-of n v ++ (v n ∷ [])) i false) q ∙ getD-at (bits-of n v) (v n) [] false n e ∙ ap v (sym q))
+    (λ d. getD-append-left (bits-of n v) (v n ∷ []) false g (omega arith) ∙ bits-at n v g (omega arith))
+    (cases-eq g n)
 
 -- ---- forms
 record Form (n : ℕ) (ts : List (Term NetSet)) : Type 0 where
@@ -109,9 +109,9 @@ zero-form n (t ∷ ts) f z =
     let m = least t ts .mono in
     let ins = bits-of n (holds m) in
     let e : least t ts .code ≡ 0 =
-          sym (value-least t ts (f .own) (f .falling))
-          ∙ sym (value-at-agree (λ g. getD ins g false) (holds m) n (λ i l. bits-at n (holds m) i l) (t ∷ ts) (f .within))
-          ∙ z ins (bits-long n (holds m)) in
+    sym (value-least t ts (f .own) (f .falling))
+    ∙ sym (value-at-agree (λ g. getD ins g false) (holds m) n (λ i l. bits-at n (holds m) i l) (t ∷ ts) (f .within))
+    ∙ z ins (bits-long n (holds m)) in
     absurd (let h = least-code t ts (f .nonzero) in omega arith)
 
 -- ---- the sum of two forms
@@ -122,13 +122,13 @@ all-terms n (t ∷ ts) o w = ((o .0, w .0), all-terms n ts (o .1) (w .1))
 sum-form : (n : ℕ) (us vs : List (Term NetSet)) → Form n us → Form n vs → Form n (sums vs us)
 sum-form n us vs f g =
     adding-keeps net-model (wanted vs us) (λ t. Own (t .mono) × Within n (t .mono)) (Form n)
-      (λ t xs q r. record {
-        own = added-monos net-model net-laws Own (t .code) (t .mono) (q .0) xs (r .own);
-        falling = added-falling net-model net-laws (t .code) (t .mono) xs (r .falling);
-        nonzero = added-nonzero net-model net-laws (t .code) (t .mono) xs (r .nonzero);
-        within = added-monos net-model net-laws (Within n) (t .code) (t .mono) (q .1) xs (r .within);
-      })
-      vs us (sums vs us) (all-terms n vs (g .own) (g .within)) f (adding-all (wanted vs us) vs us (omega arith))
+    (λ t xs q r. record {
+      own = added-monos net-model net-laws Own (t .code) (t .mono) (q .0) xs (r .own);
+      falling = added-falling net-model net-laws (t .code) (t .mono) xs (r .falling);
+      nonzero = added-nonzero net-model net-laws (t .code) (t .mono) xs (r .nonzero);
+      within = added-monos net-model net-laws (Within n) (t .code) (t .mono) (q .1) xs (r .within);
+    })
+    vs us (sums vs us) (all-terms n vs (g .own) (g .within)) f (adding-all (wanted vs us) vs us (omega arith))
 
 sum-coeff : (x : NetSet) (adds ts : List (Term NetSet)) → coeff net-model x (sums adds ts) ≡ bitXor (coeff net-model x adds) (coeff net-model x ts)
 sum-coeff x [] ts = sym (xor-zero-l (coeff net-model x ts))
@@ -141,12 +141,12 @@ same-forms : (n : ℕ) (us vs : List (Term NetSet)) → Form n us → Form n vs
     → ((ins : List Bool) → length ins ≡ n → value-at (λ g. getD ins g false) us ≡ value-at (λ g. getD ins g false) vs) → us ≡ vs
 same-forms n us vs f g h =
     let none : sums vs us ≡ [] =
-          zero-form n (sums vs us) (sum-form n us vs f g)
-            (λ ins l. value-at-adding (λ i. getD ins i false) (wanted vs us) vs us (sums vs us) (adding-all (wanted vs us) vs us (omega arith))
-              ∙ ap (bitXor (value-at (λ i. getD ins i false) vs)) (h ins l) ∙ xor-self (value-at (λ i. getD ins i false) vs)) in
+    zero-form n (sums vs us) (sum-form n us vs f g)
+    (λ ins l. value-at-adding (λ i. getD ins i false) (wanted vs us) vs us (sums vs us) (adding-all (wanted vs us) vs us (omega arith))
+    ∙ ap (bitXor (value-at (λ i. getD ins i false) vs)) (h ins l) ∙ xor-self (value-at (λ i. getD ins i false) vs)) in
     unique net-model net-laws us vs (f .falling) (g .falling) (f .nonzero) (g .nonzero)
-      (λ x. xor-cancel (coeff net-model x vs) (coeff net-model x us) (coeff net-model x vs)
-        (sym (sum-coeff x vs us) ∙ ap (coeff net-model x) none ∙ sym (xor-self (coeff net-model x vs))))
+    (λ x. xor-cancel (coeff net-model x vs) (coeff net-model x us) (coeff net-model x vs)
+    (sym (sum-coeff x vs us) ∙ ap (coeff net-model x) none ∙ sym (xor-self (coeff net-model x vs))))
 
 form-of : (c : Circuit) (us : List (Term NetSet)) → Bit-form c us → Form (inputs c) us
 form-of c us b = record { own = b .own; falling = b .falling; nonzero = b .nonzero; within = b .no-gate }

@@ -2,14 +2,14 @@
 use mathlib.Core.Path.{_≡_}
 use mathlib.Core.Bool.{Bool, true, false}
 use mathlib.Core.List.{List, [], _∷_}
-use Prim.Native.Nat.{ℕ, _+_, _*_, _^_, _<_, _≤_}
+use Prim.Native.Nat.{ℕ, _+_, _*_, _/_, _%_, _^_, _<_, _≤_}
 use lib.ListN.{length, getD}
 use Rattle.terms.specs.Terms.{Falling, Nonzero, Codes, Monos}
 use Rattle.terms.specs.Nets.{net-model}
 use Rattle.terms.specs.declared.Term.{Term}
 use Rattle.terms.specs.declared.nets.NetSet.{NetSet}
 use Rattle.netlist.specs.Circuits.{Circuit, WellFormed, inputs, nets}
-use Rattle.netlist.specs.Meaning.{bit, output}
+use Rattle.netlist.specs.Meaning.{bit, output, bit-of, output-at}
 use Rattle.terms.specs.Sets.{holds, Own, Within}
 use Rattle.terms.specs.Additions.{Ended, done, full}
 use Rattle.gates.specs.Reductions.{Reduces, Worked}
@@ -40,6 +40,14 @@ pub record Bit-form (c : Circuit) (us : List (Term NetSet)) : Type 0 where
 -- a circuit has one bit form: its meaning fixes the list
 abbrev pub Only-form : Type 0
 Only-form = (c : Circuit) (us vs : List (Term NetSet)) → Bit-form c us → Bit-form c vs → us ≡ vs
+
+-- the bit that net x has at these input words: bit x % k of word x / k
+abbrev pub bit-at : ℕ → List ℕ → ℕ → Bool
+bit-at k xs x = bit-of (getD xs (x / k) 0) (x % k)
+
+-- at input words, a bit form has the value that the gates give there
+abbrev pub Value-at-words : Type 0
+Value-at-words = (c : Circuit) (us : List (Term NetSet)) (xs : List ℕ) → WellFormed c → Bit-form c us → length xs ≡ c .words → value-at (bit-at (c .width) xs) us ≡ output-at c xs
 
 -- what a working that went to its end has found
 abbrev pub Right-end : Circuit → Ended NetSet → Type 0

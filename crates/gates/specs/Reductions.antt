@@ -35,16 +35,19 @@ TailTerms c s g [] (t ∷ ts) = ⊥
 TailTerms c s g (xs ∷ us) [] = ⊥
 TailTerms c s g (xs ∷ us) (t ∷ ts) = (t .code ≡ c) × Put s g xs (t .mono) × TailTerms c s g us ts
 
--- what the working on a table of so many rows ends in
+-- What the working ends in, on a table of `cap` rows that holds the given terms.
+-- `empty`: no term is left. `bits`: the leading term holds no gate's net. Otherwise the leading term t goes, g being its
+-- greatest net, and the tail of g's gate comes: `stops` where one of these additions finds no free row, else `step`.
 pub data Reduces (c : Circuit) (cap : ℕ) : List (Term NetSet) → Ended NetSet → Type 0 where
   empty : Reduces c cap [] (done [])
   bits : (t : Term NetSet) (ts : List (Term NetSet)) → Within (inputs c) (t .mono) → Reduces c cap (t ∷ ts) (done (t ∷ ts))
   stops : (t : Term NetSet) (ts adds us : List (Term NetSet)) (g : ℕ) → Top (t .mono) g → inputs c ≤ g → TailTerms (t .code) (t .mono) g (tail (getD (c .gates) (g - inputs c) Zero)) adds →
-    adding net-model cap adds ts ≡ full us → Reduces c cap (t ∷ ts) (full us)
+      adding net-model cap adds ts ≡ full us → Reduces c cap (t ∷ ts) (full us)
   step : (t : Term NetSet) (ts adds us : List (Term NetSet)) (g : ℕ) (e : Ended NetSet) → Top (t .mono) g → inputs c ≤ g → TailTerms (t .code) (t .mono) g (tail (getD (c .gates) (g - inputs c) Zero)) adds →
-    adding net-model cap adds ts ≡ done us → Reduces c cap us e → Reduces c cap (t ∷ ts) e
+      adding net-model cap adds ts ≡ done us → Reduces c cap us e → Reduces c cap (t ∷ ts) e
 
--- the whole working, from the empty table
+-- What the whole working ends in, from the empty table: the output terms are added first, and where each of them finds
+-- a row the working goes on with what they make.
 pub data Worked (c : Circuit) (cap : ℕ) : Ended NetSet → Type 0 where
   stops : (outs us : List (Term NetSet)) → OutTerms 0 (c .outs) outs → adding net-model cap outs [] ≡ full us → Worked c cap (full us)
   goes : (outs us : List (Term NetSet)) (e : Ended NetSet) → OutTerms 0 (c .outs) outs → adding net-model cap outs [] ≡ done us → Reduces c cap us e → Worked c cap e

@@ -5,15 +5,14 @@ mod work;
 ghost use lib.ListN.{length};
 ghost use Rattle.netlist.specs.Netlists.{circuit};
 ghost use Rattle.gates.specs.Answers.{Answered};
-ghost use Rattle.gates.specs.Forms.{Values-kept, Steps-keep, Only-form, One-end, More-rows, Enough-rows, Always-ends};
-
+ghost use Rattle.gates.specs.Forms.{Values-kept, Steps-keep, Value-at-words, Only-form, One-end, More-rows, Enough-rows, Always-ends};
 use fault::Fault;
 use netlist::circuit::Netlist;
+use terms::Term;
+use terms::TermTable;
 use terms::nets::NetSet;
 use terms::nets::Nets;
 use terms::nets::NetsKind;
-use terms::Term;
-use terms::TermTable;
 use work::find_form;
 
 // Makes the lent rows the bit form of the netlist, that is its output word in algebraic normal form, and then zero rows;
@@ -29,10 +28,10 @@ pub fn bit_form(net: &Netlist, rows: &mut [Term<NetSet>]) -> Result<usize, Fault
 pub fn working_stands()
     ensures keeps { λ _. ⌜ Steps-keep ⌝ }
     ensures values { λ _. ⌜ Values-kept ⌝ }
+    ensures words { λ _. ⌜ Value-at-words ⌝ }
     ensures sole { λ _. ⌜ Only-form ⌝ }
     ensures one { λ _. ⌜ One-end ⌝ }
     ensures more { λ _. ⌜ More-rows ⌝ }
     ensures enough { λ _. ⌜ Enough-rows ⌝ }
     ensures ends { λ _. ⌜ Always-ends ⌝ }
-{
-}
+{}

@@ -8,10 +8,10 @@ ghost use Rattle.terms.specs.Sets.{Own};
 ghost use Rattle.gates.specs.Tails.{Joined, Joins};
 use netlist::gate::Gate;
 use netlist::gate::Net;
+use terms::Kind;
 use terms::nets::NetSet;
 use terms::nets::Nets;
 use terms::nets::NetsKind;
-use terms::Kind;
 
 // At most four sets, in order.
 #[derive(Clone, Copy)]

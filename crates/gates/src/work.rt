@@ -13,15 +13,15 @@ ghost use Rattle.gates.specs.Reductions.{OutTerms, Reduces, Worked};
 ghost use Rattle.gates.specs.Forms.{Terms-of};
 ghost use Rattle.gates.specs.Tails.{each, ended};
 ghost use Rattle.gates.specs.Answers.{Answered};
-use crate::tail::tail_of;
 use crate::tail::Tail;
+use crate::tail::tail_of;
 use fault::Fault;
 use netlist::circuit::Netlist;
+use terms::Full;
+use terms::TermTable;
 use terms::nets::NetSet;
 use terms::nets::Nets;
 use terms::nets::NetsKind;
-use terms::Full;
-use terms::TermTable;
 
 // Adds `code` with each set of the tail, in order.
 fn add_tail(table: &mut TermTable<NetSet>, code: u16, tail: &Tail) -> Result<(), Full>

@@ -44,9 +44,9 @@ module _ {M : Type 0} (k : KindModel M) (cap : ℕ) (t : Term M) (adds ts : List
   adding-first us e =
       let next = added k (t .code) (t .mono) ts in
       ⊎-elim
-        (λ b. full-done ts us (sym (cond-true (ltb cap (length next)) (full ts) (adding k cap adds next) b) ∙ e))
-        (λ b. (ltb-false cap (length next) b, sym (cond-false (ltb cap (length next)) (full ts) (adding k cap adds next) b) ∙ e))
-        (cases-bool (ltb cap (length next)))
+      (λ b. full-done ts us (sym (cond-true (ltb cap (length next)) (full ts) (adding k cap adds next) b) ∙ e))
+      (λ b. (ltb-false cap (length next) b, sym (cond-false (ltb cap (length next)) (full ts) (adding k cap adds next) b) ∙ e))
+      (cases-bool (ltb cap (length next)))
 
 -- what holds of the terms at the start, and is kept by each addition, holds at the end
 pub adding-keeps : {M : Type 0} (k : KindModel M) (cap : ℕ) (Q : Term M → Type 0) (P : List (Term M) → Type 0)

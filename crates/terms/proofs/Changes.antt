@@ -28,14 +28,14 @@ bit a i = eqb (a / 2 ^ i % 2) 1
 pow-bit : (k m : ℕ) → bit (2 ^ k) m ≡ eqb m k
 pow-bit k m =
     ⊎-elim
-      (λ e. ap (λ x. eqb (2 ^ k / 2 ^ x % 2) 1) e ∙ ap (λ x. eqb (x % 2) 1) (div-self (pow-pos k)) ∙ sym (eq-eqb m k e))
-      (⊎-elim
-        (λ l.
-          let e : k - m - 1 + 1 + m ≡ k = omega arith in
-          let p : 2 ^ k ≡ 2 ^ (k - m - 1) * 2 * 2 ^ m = ap (λ x. 2 ^ x) (sym e) ∙ pow-add 2 (k - m - 1 + 1) m ∙ ap (λ x. x * 2 ^ m) (pow-add 2 (k - m - 1) 1) in
-          ap (λ x. eqb (x / 2 ^ m % 2) 1) p ∙ ap (λ x. eqb (x % 2) 1) (mul-div-cancel (2 ^ (k - m - 1) * 2) (pow-pos m)) ∙ ap (λ x. eqb x 1) (even (2 ^ (k - m - 1))) ∙ sym (ne-eqb m k (λ q. omega arith)))
-        (λ l. ap (λ x. eqb (x % 2) 1) (div-eq-of-lt (pow-lt {i = k} {j = m} l)) ∙ sym (ne-eqb m k (λ q. omega arith))))
-      (cases-order m k)
+    (λ e. ap (λ x. eqb (2 ^ k / 2 ^ x % 2) 1) e ∙ ap (λ x. eqb (x % 2) 1) (div-self (pow-pos k)) ∙ sym (eq-eqb m k e))
+    (⊎-elim
+    (λ l.
+    let e : k - m - 1 + 1 + m ≡ k = omega arith in
+    let p : 2 ^ k ≡ 2 ^ (k - m - 1) * 2 * 2 ^ m = ap (λ x. 2 ^ x) (sym e) ∙ pow-add 2 (k - m - 1 + 1) m ∙ ap (λ x. x * 2 ^ m) (pow-add 2 (k - m - 1) 1) in
+    ap (λ x. eqb (x / 2 ^ m % 2) 1) p ∙ ap (λ x. eqb (x % 2) 1) (mul-div-cancel (2 ^ (k - m - 1) * 2) (pow-pos m)) ∙ ap (λ x. eqb x 1) (even (2 ^ (k - m - 1))) ∙ sym (ne-eqb m k (λ q. omega arith)))
+    (λ l. ap (λ x. eqb (x % 2) 1) (div-eq-of-lt (pow-lt {i = k} {j = m} l)) ∙ sym (ne-eqb m k (λ q. omega arith))))
+    (cases-order m k)
   where
     even : (a : ℕ) → a * 2 % 2 ≡ 0
     even a = omega arith
@@ -91,7 +91,7 @@ cleared-at w k i l m =
     ap (λ x. bit (bitAnd w x) i) (complement (2 ^ k) (pow-lt {i = k} {j = 64} l))
     ∙ and-at w (bitXor (2 ^ 64 - 1) (2 ^ k)) i
     ∙ ap (λ b. bit w i && b)
-      (xor-at (2 ^ 64 - 1) (2 ^ k) i ∙ ap₂ (λ b c. cond b (not c) c) (pow-bit k i) (ones-at i m) ∙ flip (eqb i k))
+    (xor-at (2 ^ 64 - 1) (2 ^ k) i ∙ ap₂ (λ b c. cond b (not c) c) (pow-bit k i) (ones-at i m) ∙ flip (eqb i k))
   where
     flip : (b : Bool) → cond b (not true) true ≡ not b
     flip true = refl
@@ -101,9 +101,9 @@ cleared-at w k i l m =
 same-place : (g h : ℕ) → h / 64 ≡ g / 64 → eqb (h % 64) (g % 64) ≡ eqb h g
 same-place g h e =
     ⊎-elim
-      (λ q. eq-eqb (h % 64) (g % 64) q ∙ sym (eq-eqb h g (omega (arith, div-add-mod' g 64, div-add-mod' h 64))))
-      (λ d. ne-eqb (h % 64) (g % 64) d ∙ sym (ne-eqb h g (λ q. d (ap (λ x. x % 64) q))))
-      (cases-eq (h % 64) (g % 64))
+    (λ q. eq-eqb (h % 64) (g % 64) q ∙ sym (eq-eqb h g (omega (arith, div-add-mod' g 64, div-add-mod' h 64))))
+    (λ d. ne-eqb (h % 64) (g % 64) d ∙ sym (ne-eqb h g (λ q. d (ap (λ x. x % 64) q))))
+    (cases-eq (h % 64) (g % 64))
 
 -- four words of 64 bits
 pub own-of : (ws : List ℕ) → length ws ≡ 4 → ((i : ℕ) → getD ws i 0 < 2 ^ 64) → Own (net-set ws)
@@ -161,10 +161,10 @@ one-net g l =
     subst (λ x. SetOf (g ∷ []) (net-set (set zeros (g / 64) x))) (sym (one-shl (g % 64) 64 (low g))) (record {
       own = set-own zeros (g / 64) (2 ^ (g % 64)) refl (λ j. subst (λ x. x < 2 ^ 64) (sym (zeros-at j)) (pow-pos 64)) (pow-lt {i = g % 64} {j = 64} (low g));
       members = λ h. ⊎-elim
-        (λ e. here zeros g h (2 ^ (g % 64)) l refl e ∙ pow-bit (g % 64) (h % 64) ∙ same-place g h e ∙ or-none (eqb h g))
-        (λ d. elsewhere zeros g h (2 ^ (g % 64)) d ∙ ap (λ w. bit w (h % 64)) (zeros-at (h / 64)) ∙ ap (λ x. eqb (x % 2) 1) (zero-div (2 ^ (h % 64)))
+          (λ e. here zeros g h (2 ^ (g % 64)) l refl e ∙ pow-bit (g % 64) (h % 64) ∙ same-place g h e ∙ or-none (eqb h g))
+          (λ d. elsewhere zeros g h (2 ^ (g % 64)) d ∙ ap (λ w. bit w (h % 64)) (zeros-at (h / 64)) ∙ ap (λ x. eqb (x % 2) 1) (zero-div (2 ^ (h % 64)))
           ∙ sym (ap (λ b. b || false) (ne-eqb h g (λ q. d (ap (λ n. n / 64) q)))))
-        (cases-eq (h / 64) (g / 64));
+          (cases-eq (h / 64) (g / 64));
     })
 
 -- ---- a net taken out
@@ -182,11 +182,11 @@ net-out ws g l n f =
     subst (λ x. Without (net-set ws) g (net-set (set ws (g / 64) (bitAnd (getD ws (g / 64) 0) (2 ^ 64 - 1 - x))))) (sym (one-shl k 64 (low g))) (record {
       own = set-own ws (g / 64) (cleared w k) n f (and-lt 64 w (2 ^ 64 - 1 - 2 ^ k) (f (g / 64)) small);
       members = λ h. ⊎-elim
-        (λ e. here ws g h (cleared w k) l n e ∙ cleared-at w k (h % 64) (low g) (low h)
+          (λ e. here ws g h (cleared w k) l n e ∙ cleared-at w k (h % 64) (low g) (low h)
           ∙ ap₂ (λ a b. bit a (h % 64) && not b) (ap (λ i. getD ws i 0) (sym e)) (same-place g h e))
-        (λ d. elsewhere ws g h (cleared w k) d ∙ and-all (holds (net-set ws) h)
+          (λ d. elsewhere ws g h (cleared w k) d ∙ and-all (holds (net-set ws) h)
           ∙ ap (λ b. holds (net-set ws) h && not b) (sym (ne-eqb h g (λ q. d (ap (λ i. i / 64) q)))))
-        (cases-eq (h / 64) (g / 64));
+          (cases-eq (h / 64) (g / 64));
     })
 
 pub taken-out : (s : NetSet) (g : ℕ) → g < 256 → Own s → (x : NetSet) × Without s g x
@@ -202,8 +202,8 @@ taken-out s g l o = (_, net-out (s .words) g l (inside-length full-words (s .wor
 pub top-net : (ws : List ℕ) (i j : ℕ) → j < 64 → 2 ^ j ≤ getD ws i 0 → getD ws i 0 < 2 ^ suc j → ((k : ℕ) → i < k → getD ws k 0 ≡ 0) → Top (net-set ws) (i * 64 + j)
 top-net ws i j l low-end high-end zero-above = record {
   has =
-    ap₂ (λ m n. eqb (getD ws m 0 / 2 ^ n % 2) 1) (div-mul-add i 64 j l) (mod-mul-add i 64 j l)
-    ∙ ap (λ x. eqb (x % 2) 1) (div-eq-of-lt-le {k = 1} (2 ^ j) {m = getD ws i 0} (omega arith) (omega (arith, pow-two)));
+      ap₂ (λ m n. eqb (getD ws m 0 / 2 ^ n % 2) 1) (div-mul-add i 64 j l) (mod-mul-add i 64 j l)
+      ∙ ap (λ x. eqb (x % 2) 1) (div-eq-of-lt-le {k = 1} (2 ^ j) {m = getD ws i 0} (omega arith) (omega (arith, pow-two)));
   above = above;
 }
   where
@@ -215,13 +215,13 @@ top-net ws i j l low-end high-end zero-above = record {
         let s = div-add-mod' h 64 in
         let r = mod-lt h {m = 64} (omega arith) in
         ⊎-elim
-          (λ e.
-            let k : suc j ≤ h % 64 = omega arith in
-            let p : 2 ^ suc j ≤ 2 ^ (h % 64) = pow-mono {i = suc j} {j = h % 64} k in
-            let q : getD ws i 0 < 2 ^ (h % 64) = omega arith in
-            ap (λ n. eqb (getD ws n 0 / 2 ^ (h % 64) % 2) 1) (sym e) ∙ ap (λ x. eqb (x % 2) 1) (div-eq-of-lt q))
-          (λ d. no-bit h (zero-above (h / 64) (omega arith)))
-          (cases-eq i (h / 64))
+        (λ e.
+        let k : suc j ≤ h % 64 = omega arith in
+        let p : 2 ^ suc j ≤ 2 ^ (h % 64) = pow-mono {i = suc j} {j = h % 64} k in
+        let q : getD ws i 0 < 2 ^ (h % 64) = omega arith in
+        ap (λ n. eqb (getD ws n 0 / 2 ^ (h % 64) % 2) 1) (sym e) ∙ ap (λ x. eqb (x % 2) 1) (div-eq-of-lt q))
+        (λ d. no-bit h (zero-above (h / 64) (omega arith)))
+        (cases-eq i (h / 64))
       where
         no-bit : (h : ℕ) → getD ws (h / 64) 0 ≡ 0 → holds (net-set ws) h ≡ false
         no-bit h e = ap (λ w. eqb (w / 2 ^ (h % 64) % 2) 1) e ∙ ap (λ x. eqb (x % 2) 1) (zero-div (2 ^ (h % 64)))

@@ -52,12 +52,28 @@ fn close_row<M: Copy>(rows: &mut [Term<M>], at: usize, len: usize, z: Term<M>)
     rows[len - 1] = z;
 }
 
+// The row that stands where there is no term: code 0 and the unit.
+fn zero_row<M: Copy, K: Kind<M>>(kind: &K) -> Term<M>
+    ensures { λ r. ⌜ r ≡ blank (model (now (kind .entry))) ⌝ }
+{
+    Term {
+        code: 0,
+        mono: kind.unit(),
+    }
+}
+
 // No row is free.
 #[derive(Clone, Copy)]
 pub struct Full;
 
 // Adds a term to the table that is the first `len` rows, and answers how many rows it has then.
-fn add_row<M: Copy, K: Kind<M>>(kind: &K, rows: &mut [Term<M>], len: usize, code: u16, mono: M) -> Result<usize, Full>
+fn add_row<M: Copy, K: Kind<M>>(
+    kind: &K,
+    rows: &mut [Term<M>],
+    len: usize,
+    code: u16,
+    mono: M,
+) -> Result<usize, Full>
     requires { ⌜ Table (model (now kind)) (now rows) len ⌝ }
     ensures { λ r. ⌜ elim r [ Ok n ↦ Added (model (now (kind .entry))) code mono (now (rows .entry)) len (now (rows .exit)) n | Err e ↦ Refused (model (now (kind .entry))) code mono (now (rows .entry)) len (now (rows .exit)) ] ⌝ }
 {
@@ -68,7 +84,7 @@ fn add_row<M: Copy, K: Kind<M>>(kind: &K, rows: &mut [Term<M>], len: usize, code
     if at < len && !kind.less(rows[at].mono, mono) {
         let sum = rows[at].code ^ code;
         if sum == 0 {
-            close_row(rows, at, len, Term { code: 0, mono: kind.unit() });
+            close_row(rows, at, len, zero_row(kind));
             Ok(len - 1)
         } else {
             rows[at].code = sum;
@@ -86,7 +102,7 @@ fn add_row<M: Copy, K: Kind<M>>(kind: &K, rows: &mut [Term<M>], len: usize, code
 pub fn clear_rows<M: Copy, K: Kind<M>>(kind: &K, rows: &mut [Term<M>])
     ensures { λ _. ⌜ now (rows .exit) ≡ replicate (length (now (rows .entry))) (blank (model (now (kind .entry)))) ⌝ }
 {
-    let zero = Term { code: 0, mono: kind.unit() };
+    let zero = zero_row(kind);
     for row in rows.iter_mut() {
         *row = zero;
     }
@@ -99,8 +115,7 @@ fn take_first<M: Copy, K: Kind<M>>(kind: &K, rows: &mut [Term<M>], len: usize) -
     ensures { λ r. ⌜ TookFirst (model (now (kind .entry))) (now (rows .entry)) len r (now (rows .exit)) (len - 1) ⌝ }
 {
     let lead = rows[0];
-    let zero = Term { code: 0, mono: kind.unit() };
-    close_row(rows, 0, len, zero);
+    close_row(rows, 0, len, zero_row(kind));
     lead
 }
 
@@ -218,5 +233,4 @@ pub fn sums_stand<M: Copy, K: Kind<M>>(kind: &K)
     ensures value { λ _. ⌜ Adds-value (model (now (kind .entry))) ⌝ }
     ensures coeff { λ _. ⌜ Adds-coeff (model (now (kind .entry))) ⌝ }
     ensures one { λ _. ⌜ Only-one (model (now (kind .entry))) ⌝ }
-{
-}
+{}

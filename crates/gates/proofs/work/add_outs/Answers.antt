@@ -31,12 +31,15 @@ loop-i-again c =
     let l : i < length os = omega (arith, c .loop-i-test .taken, w .as-wide) in
     let code : (1 * 2 ^ i) % 2 ^ 16 ≡ 2 ^ i = one-shl i 16 (omega (arith, c .loop-i-test .taken, w .range .few-bits)) in
     let one : SetOf (getD os i 0 ∷ []) (c .of-net .result) = subst (λ x. SetOf (x ∷ []) (c .of-net .result)) (c .output-out .ensures .net) (c .of-net .ensures) in
-    let s = c .in-Continue-add .ensures tt .sum in
-    (s .table, c .in-Continue-add .ensures tt .same ∙ c .loop-i .inv .1, s .room ∙ c .loop-i .inv .2,
-     λ outs o.
-       sym (outs-more cap os outs i ((1 * 2 ^ i) % 2 ^ 16) (c .of-net .result) (live t) o l code one
-         ∙ table-on net-model cap ((1 * 2 ^ i) % 2 ^ 16) (c .of-net .result) (drop (i + 1) outs) t (c .add .last .self) (c .loop-i .inv .2) s)
-       ∙ c .loop-i .inv .3 outs o)
+    let s = c .in-Continue-add .ensures tt .sum in (
+      s .table,
+      c .in-Continue-add .ensures tt .same ∙ c .loop-i .inv .1,
+      s .room ∙ c .loop-i .inv .2,
+      λ outs o.
+          sym (outs-more cap os outs i ((1 * 2 ^ i) % 2 ^ 16) (c .of-net .result) (live t) o l code one
+          ∙ table-on net-model cap ((1 * 2 ^ i) % 2 ^ 16) (c .of-net .result) (drop (i + 1) outs) t (c .add .last .self) (c .loop-i .inv .2) s)
+          ∙ c .loop-i .inv .3 outs o,
+    )
 
 pub returns-in-Break-add : need.returns-in-Break-add
 returns-in-Break-add c =
@@ -56,8 +59,8 @@ returns-in-Break-add c =
       room = ap length (s .kept) ∙ c .loop-i .inv .2;
       sound = subst₂ (Table net-model) (sym (s .kept)) (sym (s .len)) (c .loop-i .inv .0);
       sum = λ outs o. sym (c .loop-i .inv .3 outs o)
-        ∙ outs-more cap os outs i ((1 * 2 ^ i) % 2 ^ 16) (c .of-net .result) (live t) o l code one
-        ∙ table-full net-model cap ((1 * 2 ^ i) % 2 ^ 16) (c .of-net .result) (drop (i + 1) outs) t (c .add .last .self) (c .loop-i .inv .2) s;
+          ∙ outs-more cap os outs i ((1 * 2 ^ i) % 2 ^ 16) (c .of-net .result) (live t) o l code one
+          ∙ table-full net-model cap ((1 * 2 ^ i) % 2 ^ 16) (c .of-net .result) (drop (i + 1) outs) t (c .add .last .self) (c .loop-i .inv .2) s;
     })
 
 pub returns : need.returns
@@ -69,7 +72,7 @@ returns c =
       room = c .loop-i .inv .2;
       sound = c .loop-i .inv .0;
       sum = λ outs o.
-        let long = outs-long 0 (k .outs) outs o in
-        sym (c .loop-i .inv .3 outs o)
-        ∙ ap (λ xs. adding net-model (capacity (c .args .table .now)) xs (live (c .loop-i .table))) (drop-all (c .loop-i .i) outs (omega (arith, c .loop-i-test .left, w .as-wide)));
+          let long = outs-long 0 (k .outs) outs o in
+          sym (c .loop-i .inv .3 outs o)
+          ∙ ap (λ xs. adding net-model (capacity (c .args .table .now)) xs (live (c .loop-i .table))) (drop-all (c .loop-i .i) outs (omega (arith, c .loop-i-test .left, w .as-wide)));
     }

@@ -34,9 +34,9 @@ returns-in-Break-add c =
       room = ap length (s .kept) ∙ c .loop-i .inv .2;
       sound = subst₂ (Table net-model) (sym (s .kept)) (sym (s .len)) (c .loop-i .inv .0);
       sum = sym (c .loop-i .inv .3)
-        ∙ at-drop-more (λ xs. adding net-model cap (each code xs) (live t)) us i empty (omega (arith, c .loop-i-test .taken))
-        ∙ ap (λ u. adding net-model cap (term code u ∷ each code (drop (i + 1) us)) (live t)) row
-        ∙ table-full net-model cap code (getD (tail .sets) i empty) (each code (drop (i + 1) us)) t (c .add .last .self) (c .loop-i .inv .2) s;
+          ∙ at-drop-more (λ xs. adding net-model cap (each code xs) (live t)) us i empty (omega (arith, c .loop-i-test .taken))
+          ∙ ap (λ u. adding net-model cap (term code u ∷ each code (drop (i + 1) us)) (live t)) row
+          ∙ table-full net-model cap code (getD (tail .sets) i empty) (each code (drop (i + 1) us)) t (c .add .last .self) (c .loop-i .inv .2) s;
     })
 
 pub loop-i-again : need.loop-i-again
@@ -49,12 +49,15 @@ loop-i-again c =
     let cap = capacity (c .args .table .now) in
     let lu : length us ≡ tail .len = length-take-le (tail .len) (tail .sets) (omega (arith, tail .few, tail .all)) in
     let row : getD us i empty ≡ getD (tail .sets) i empty = getD-take (tail .len) (tail .sets) i empty (c .loop-i-test .taken) in
-    let s = c .in-Continue-add .ensures tt .sum in
-    (s .table, c .in-Continue-add .ensures tt .same ∙ c .loop-i .inv .1, s .room ∙ c .loop-i .inv .2,
-     sym (at-drop-more (λ xs. adding net-model cap (each code xs) (live t)) us i empty (omega (arith, c .loop-i-test .taken))
+    let s = c .in-Continue-add .ensures tt .sum in (
+      s .table,
+      c .in-Continue-add .ensures tt .same ∙ c .loop-i .inv .1,
+      s .room ∙ c .loop-i .inv .2,
+      sym (at-drop-more (λ xs. adding net-model cap (each code xs) (live t)) us i empty (omega (arith, c .loop-i-test .taken))
           ∙ ap (λ u. adding net-model cap (term code u ∷ each code (drop (i + 1) us)) (live t)) row
           ∙ table-on net-model cap code (getD (tail .sets) i empty) (each code (drop (i + 1) us)) t (c .add .last .self) (c .loop-i .inv .2) s)
-     ∙ c .loop-i .inv .3)
+          ∙ c .loop-i .inv .3,
+    )
 
 pub returns : need.returns
 returns c =
@@ -66,5 +69,5 @@ returns c =
       room = c .loop-i .inv .2;
       sound = c .loop-i .inv .0;
       sum = sym (c .loop-i .inv .3)
-        ∙ at-drop-all (λ xs. adding net-model (capacity (c .args .table .now)) (each (c .args .code) xs) (live (c .loop-i .table))) us (c .loop-i .i) (omega (arith, c .loop-i-test .left));
+          ∙ at-drop-all (λ xs. adding net-model (capacity (c .args .table .now)) (each (c .args .code) xs) (live (c .loop-i .table))) us (c .loop-i .i) (omega (arith, c .loop-i-test .left));
     }

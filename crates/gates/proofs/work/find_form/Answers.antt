@@ -54,14 +54,19 @@ returns c =
     let form = values-kept laws-of-sets k cap (done us) (formed (c .args .net .now)) (s .worked) in
     let few : length us ≤ 256 = omega (arith, c .len-count .ensures, c .if-count-gt-MAX-TERMS .left) in
     let rows : t .rows .now ≡ padded net-model cap us =
-          sym (take-append-drop (t .len) (t .rows .now)) ∙ ap (λ xs. us ++ xs) (s .sound .rest ∙ ap₂ (λ a b. replicate (a - b) (blank net-model)) (s .room) (sym l)) in
+    sym (take-append-drop (t .len) (t .rows .now)) ∙ ap (λ xs. us ++ xs) (s .sound .rest ∙ ap₂ (λ a b. replicate (a - b) (blank net-model)) (s .room) (sym l)) in
     record {
       same = s .same;
-      answer = (us, record {
-        worked = s .worked;
-        only = λ d w. one-end laws-of-sets k cap d (done us) w (s .worked);
-        form = form;
-        sole = λ vs v. only-form k vs us v form;
-        few = few;
-      }, n, rows);
+      answer = (
+        us,
+        record {
+          worked = s .worked;
+          only = λ d w. one-end laws-of-sets k cap d (done us) w (s .worked);
+          form = form;
+          sole = λ vs v. only-form k vs us v form;
+          few = few;
+        },
+        n,
+        rows,
+      );
     }

@@ -20,7 +20,7 @@ returns-in-Break-add-outs c =
     let us = live (c .add-outs .last .table) in
     let s = c .in-Break-add-outs .ensures tt in
     let f : adding net-model cap (out-terms 0 (k .outs)) [] ≡ full us =
-          subst (λ ts. adding net-model cap (out-terms 0 (k .outs)) ts ≡ full us) (c .pre .empty) (s .sum (out-terms 0 (k .outs)) (outs-are 0 (k .outs) (below-few k w))) in
+    subst (λ ts. adding net-model cap (out-terms 0 (k .outs)) ts ≡ full us) (c .pre .empty) (s .sum (out-terms 0 (k .outs)) (outs-are 0 (k .outs) (below-few k w))) in
     rw (p .1) (record { same = s .same; room = s .room; sound = s .sound; worked = stops-there k cap us w f })
 
 pub replace-gates-requires : need.replace-gates-requires
@@ -31,7 +31,7 @@ replace-gates-requires c κs =
     let us = live (c .add-outs .last .table) in
     let s = c .in-Continue-add-outs .ensures tt in
     let don : adding net-model cap (out-terms 0 (k .outs)) [] ≡ done us =
-          subst (λ ts. adding net-model cap (out-terms 0 (k .outs)) ts ≡ done us) (c .pre .empty) (s .sum (out-terms 0 (k .outs)) (outs-are 0 (k .outs) (below-few k w))) in
+    subst (λ ts. adding net-model cap (out-terms 0 (k .outs)) ts ≡ done us) (c .pre .empty) (s .sum (out-terms 0 (k .outs)) (outs-are 0 (k .outs) (below-few k w))) in
     record { sound = s .sound; terms = starts k cap us w don }
 
 pub returns : need.returns
@@ -42,7 +42,7 @@ returns c =
     let us = live (c .add-outs .last .table) in
     let s = c .in-Continue-add-outs .ensures tt in
     let don : adding net-model cap (out-terms 0 (k .outs)) [] ≡ done us =
-          subst (λ ts. adding net-model cap (out-terms 0 (k .outs)) ts ≡ done us) (c .pre .empty) (s .sum (out-terms 0 (k .outs)) (outs-are 0 (k .outs) (below-few k w))) in
+    subst (λ ts. adding net-model cap (out-terms 0 (k .outs)) ts ≡ done us) (c .pre .empty) (s .sum (out-terms 0 (k .outs)) (outs-are 0 (k .outs) (below-few k w))) in
     let r = c .replace-gates .ensures in
     let e = ended (c .replace-gates .result) (live (c .replace-gates .last .table)) in
     record {

@@ -53,7 +53,7 @@ returns-in-rest-driver c =
       room = c .loop-lead .inv .2;
       sound = c .loop-lead .inv .0;
       end = c .loop-lead .inv .4 (done (live t)) (ends-bits k (capacity (c .args .table .now)) (live t) (b .0) (c .in-Some .lead) (b .1)
-        (λ h e. ⊎-elim (λ m. never (sym e ∙ top .above h m)) (λ m. omega arith) (cases-lt g h)));
+          (λ h e. ⊎-elim (λ m. never (sym e ∙ top .above h m)) (λ m. omega arith) (cases-lt g h)));
     }
 
 pub loop-lead-less : need.loop-lead-less
@@ -74,8 +74,8 @@ loop-lead-less c =
     let first : live t ≡ lead ∷ live t′ = off .0 in
     let low : inputs k ≤ g = drives .0 in
     let tl : TailTerms (lead .code) (lead .mono) g (tail (getD (k .gates) (g - inputs k) Zero)) adds =
-          joins-tail (lead .code) (lead .mono) (c .without .result) g (c .without .ensures .members) (tail (getD (k .gates) (g - inputs k) Zero)) us
-            (subst (λ x. Joins (c .without .result) (tail x) us) (drives .2) (c .tail-of-tail .ensures)) in
+    joins-tail (lead .code) (lead .mono) (c .without .result) g (c .without .ensures .members) (tail (getD (k .gates) (g - inputs k) Zero)) us
+    (subst (λ x. Joins (c .without .result) (tail x) us) (drives .2) (c .tail-of-tail .ensures)) in
     let room : capacity t′ ≡ cap = off .1 ∙ c .loop-lead .inv .2 in
     let don : adding net-model cap adds (live t′) ≡ done ts″ = subst (λ n. adding net-model n adds (live t′) ≡ done ts″) room (c .in-Continue-add-tail .ensures tt .sum) in
     turn-falls k w cap lead (live t) (live t′) adds ts″ g first top low tl (c .loop-lead .inv .3) don
@@ -98,14 +98,17 @@ loop-lead-again c =
     let first : live t ≡ lead ∷ live t′ = off .0 in
     let low : inputs k ≤ g = drives .0 in
     let tl : TailTerms (lead .code) (lead .mono) g (tail (getD (k .gates) (g - inputs k) Zero)) adds =
-          joins-tail (lead .code) (lead .mono) (c .without .result) g (c .without .ensures .members) (tail (getD (k .gates) (g - inputs k) Zero)) us
-            (subst (λ x. Joins (c .without .result) (tail x) us) (drives .2) (c .tail-of-tail .ensures)) in
+    joins-tail (lead .code) (lead .mono) (c .without .result) g (c .without .ensures .members) (tail (getD (k .gates) (g - inputs k) Zero)) us
+    (subst (λ x. Joins (c .without .result) (tail x) us) (drives .2) (c .tail-of-tail .ensures)) in
     let room : capacity t′ ≡ cap = off .1 ∙ c .loop-lead .inv .2 in
     let s = c .in-Continue-add-tail .ensures tt in
-    let don : adding net-model cap adds (live t′) ≡ done ts″ = subst (λ n. adding net-model n adds (live t′) ≡ done ts″) room (s .sum) in
-    (s .sound, s .same ∙ c .take-lead .ensures .same ∙ c .loop-lead .inv .1, s .room ∙ room,
-     turn-terms k w cap lead (live t) (live t′) adds ts″ g first top low tl (c .loop-lead .inv .3) don,
-     λ e r. c .loop-lead .inv .4 e (turn-on k w cap lead (live t) (live t′) adds ts″ g first top low tl (c .loop-lead .inv .3) e don r))
+    let don : adding net-model cap adds (live t′) ≡ done ts″ = subst (λ n. adding net-model n adds (live t′) ≡ done ts″) room (s .sum) in (
+      s .sound,
+      s .same ∙ c .take-lead .ensures .same ∙ c .loop-lead .inv .1,
+      s .room ∙ room,
+      turn-terms k w cap lead (live t) (live t′) adds ts″ g first top low tl (c .loop-lead .inv .3) don,
+      λ e r. c .loop-lead .inv .4 e (turn-on k w cap lead (live t) (live t′) adds ts″ g first top low tl (c .loop-lead .inv .3) e don r),
+    )
 
 pub returns-in-Break-add-tail : need.returns-in-Break-add-tail
 returns-in-Break-add-tail c =
@@ -126,8 +129,8 @@ returns-in-Break-add-tail c =
     let first : live t ≡ lead ∷ live t′ = off .0 in
     let low : inputs k ≤ g = drives .0 in
     let tl : TailTerms (lead .code) (lead .mono) g (tail (getD (k .gates) (g - inputs k) Zero)) adds =
-          joins-tail (lead .code) (lead .mono) (c .without .result) g (c .without .ensures .members) (tail (getD (k .gates) (g - inputs k) Zero)) us
-            (subst (λ x. Joins (c .without .result) (tail x) us) (drives .2) (c .tail-of-tail .ensures)) in
+    joins-tail (lead .code) (lead .mono) (c .without .result) g (c .without .ensures .members) (tail (getD (k .gates) (g - inputs k) Zero)) us
+    (subst (λ x. Joins (c .without .result) (tail x) us) (drives .2) (c .tail-of-tail .ensures)) in
     let room : capacity t′ ≡ cap = off .1 ∙ c .loop-lead .inv .2 in
     let s = c .in-Break-add-tail .ensures tt in
     let f : adding net-model cap adds (live t′) ≡ full ts″ = subst (λ n. adding net-model n adds (live t′) ≡ full ts″) room (s .sum) in
