@@ -2,15 +2,17 @@
 use mathlib.Core.Path.{_≡_}
 use mathlib.Core.Bool.{true}
 use mathlib.Core.List.{List, [], _∷_, _++_}
-use Prim.Native.Nat.{ℕ, zero, suc, _/_, _%_, _*_, _^_, _<_}
+use Prim.Native.Nat.{ℕ, zero, suc, _+_, _/_, _%_, _*_, _^_, _<_}
 use lib.ListN.{getD, length}
 use Rattle.algebra.specs.Codes.{power, Dual}
 use Rattle.algebra.specs.Field.{FieldData, size}
 use Rattle.algebra.specs.Ops.{atRow}
 use Rattle.terms.specs.Exps.{exp-model}
 use Rattle.terms.specs.Kind.{KindModel}
+use Rattle.terms.specs.Nets.{net-model}
 use Rattle.terms.specs.Terms.{term, Monos}
 use Rattle.terms.specs.declared.Term.{Term}
+use Rattle.terms.specs.declared.nets.NetSet.{NetSet}
 
 -- term j of the sum for a bit of word w with the dual δ: δ^(2^j), with the word to the power 2^j
 abbrev pub bit-term : FieldData → ℕ → ℕ → ℕ → Term (List ℕ)
@@ -31,6 +33,23 @@ pub record DualSquares (m : FieldData) (rows : List (List ℕ)) : Type 0 where
   pub duals : (i : ℕ) → i < m .width → Dual m i (dual i)
   pub powers : (i j : ℕ) → i < m .width → j < 8 → getD (getD rows i []) j 0 ≡ power m (dual i) (2 ^ j)
 
+-- the set of net p alone, one of the first 64
+abbrev pub one-net : ℕ → NetSet
+one-net p = record { words = 2 ^ p ∷ (0 ∷ (0 ∷ (0 ∷ []))) }
+
+-- term i of the sum for word w to the power 2^s: the code 2^i to that power, with bit i of the word
+abbrev pub word-term : FieldData → ℕ → ℕ → ℕ → Term NetSet
+word-term m w s i = term (power m (2 ^ i) (2 ^ s)) (one-net (w * m .width + i))
+
+-- the first n terms of that sum, i rising
+abbrev pub word-sum : FieldData → ℕ → ℕ → ℕ → List (Term NetSet)
+word-sum m w s zero = []
+word-sum m w s (suc n) = word-sum m w s n ++ (word-term m w s n ∷ [])
+
+-- term t of the sums of all places, k terms each: place p is word p / k to the power 2^(p % k)
+abbrev pub word-sums-term : FieldData → ℕ → Term NetSet
+word-sums-term m t = word-term m (t / m .width / m .width) (t / m .width % m .width) (t % m .width)
+
 -- the exponent rows of n words: exponents up to q − 1, and 0 past word n
 abbrev pub card-kind : FieldData → ℕ → KindModel (List ℕ)
 card-kind m n = exp-model (size m) n
@@ -42,3 +61,13 @@ pub record BitSums (m : FieldData) (n : ℕ) (sums : List (Term (List ℕ))) : T
   pub count : length sums ≡ 192
   pub terms : (t : ℕ) → t < n * m .width * m .width → (x : Term (List ℕ)) → getD sums t x ≡ sums-term m dual t
   pub own : Monos (λ r. card-kind m n .own r ≡ true) sums
+
+-- the sums of the powers of n words
+pub record WordSums (m : FieldData) (n : ℕ) (sums : List (Term NetSet)) : Type 0 where
+  pub count : length sums ≡ 192
+  pub terms : (t : ℕ) → t < n * m .width * m .width → (x : Term NetSet) → getD sums t x ≡ word-sums-term m t
+  pub own : Monos (λ s. net-model .own s ≡ true) sums
+
+-- in row i, the code 2^i to the powers 1, 2, 4, …
+abbrev pub BitSquares : FieldData → List (List ℕ) → Type 0
+BitSquares m rows = (i j : ℕ) → i < m .width → j < 8 → getD (getD rows i []) j 0 ≡ power m (2 ^ i) (2 ^ j)

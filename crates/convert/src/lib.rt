@@ -1,5 +1,6 @@
 // Conversions between bit forms and polynomials in words, worked term by term through tables of lent rows.
 pub mod nets;
+pub mod rows;
 
 ghost use mathlib.Core.Path.{_≡_};
 ghost use mathlib.Core.List.{List, [], _∷_};
