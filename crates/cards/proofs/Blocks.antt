@@ -19,6 +19,7 @@ use Rattle.algebra.specs.Ops.{atRow}
 use Rattle.std.specs.declared.result.Result.{Result}
 use Rattle.terms.specs.Exps.{limit}
 use Rattle.terms.specs.Kind.{KindModel}
+use Rattle.terms.specs.Nets.{net-model}
 use Rattle.terms.specs.Numbers.{inside}
 use Rattle.terms.specs.Terms.{Monos}
 use Rattle.terms.specs.declared.Term.{Term}
@@ -26,7 +27,7 @@ use Rattle.terms.specs.declared.nets.NetSet.{NetSet}
 use Rattle.convert.specs.Convert.{block, chosen, Answered}
 use Rattle.convert.specs.Places.{net-held}
 use Rattle.convert.specs.declared.FullTable.{FullTable}
-use Rattle.cards.specs.Sums.{bit-term, bit-sum, sums-term, card-kind, BitSums}
+use Rattle.cards.specs.Sums.{bit-term, bit-sum, sums-term, card-kind, BitSums, one-net}
 use Rattle.cards.specs.Working.{bit-factors}
 
 -- ---- own rows
@@ -60,7 +61,15 @@ row-own m n w j h l k =
     let e : 2 ^ j ≤ q - 1 = le-ones (m .width) (pow-lt k) in
     at-inside (limit q n 0) (limit q n 1) (limit q n 2) w (2 ^ j) (omega arith) (subst (λ x. 2 ^ j ≤ x) (sym (limit-at q n w h l)) e)
 
+pub net-own : (p : ℕ) → p < 64 → net-model .own (one-net p) ≡ true
+net-own p h =
+    and-from (leb (2 ^ p) (2 ^ 64 - 1)) _ (le-leb (2 ^ p) (2 ^ 64 - 1) (le-ones 64 (pow-lt h)))
+      (and-from (leb 0 (2 ^ 64 - 1)) _ (zero-leb (2 ^ 64 - 1)) (and-from (leb 0 (2 ^ 64 - 1)) _ (zero-leb (2 ^ 64 - 1)) (and-from (leb 0 (2 ^ 64 - 1)) true (zero-leb (2 ^ 64 - 1)) refl)))
+
 -- ---- places
+pub net-below : (w k i : ℕ) → w < 3 → k ≤ 8 → i < k → w * k + i < 64
+net-below w k i h u v = let a = digits-lt h v in let b : 3 * k ≤ 24 = omega arith in omega arith
+
 pub word-below : (n k t : ℕ) → 0 < k → t < n * k * k → t / k / k < n
 word-below n k t h l = div-lt-iff-lt-mul h .1 (div-lt-iff-lt-mul h .1 l)
 
