@@ -1,4 +1,4 @@
--- A bit of a word, as a sum of powers of the word. Assumes nothing.
+-- A bit of a word as a sum of powers of the word, and a power of a word as a sum of its bits. Assumes nothing.
 use mathlib.Core.Path.{_≡_}
 use mathlib.Core.Bool.{true}
 use mathlib.Core.List.{List, [], _∷_, _++_}
@@ -14,14 +14,18 @@ use Rattle.terms.specs.Terms.{term, Monos}
 use Rattle.terms.specs.declared.Term.{Term}
 use Rattle.terms.specs.declared.nets.NetSet.{NetSet}
 
+-- f 0, f 1, … f (n − 1)
+abbrev pub listed : {M : Type 0} → (ℕ → Term M) → ℕ → List (Term M)
+listed f zero = []
+listed f (suc n) = listed f n ++ (f n ∷ [])
+
 -- term j of the sum for a bit of word w with the dual δ: δ^(2^j), with the word to the power 2^j
 abbrev pub bit-term : FieldData → ℕ → ℕ → ℕ → Term (List ℕ)
 bit-term m w δ j = term (power m δ (2 ^ j)) (atRow 3 w (2 ^ j))
 
 -- the first n terms of that sum, j rising
 abbrev pub bit-sum : FieldData → ℕ → ℕ → ℕ → List (Term (List ℕ))
-bit-sum m w δ zero = []
-bit-sum m w δ (suc n) = bit-sum m w δ n ++ (bit-term m w δ n ∷ [])
+bit-sum m w δ n = listed (bit-term m w δ) n
 
 -- term t of the sums of all places, k terms each: place p is bit p % k of word p / k, and d i the dual of bit i
 abbrev pub sums-term : FieldData → (ℕ → ℕ) → ℕ → Term (List ℕ)
@@ -43,8 +47,7 @@ word-term m w s i = term (power m (2 ^ i) (2 ^ s)) (one-net (w * m .width + i))
 
 -- the first n terms of that sum, i rising
 abbrev pub word-sum : FieldData → ℕ → ℕ → ℕ → List (Term NetSet)
-word-sum m w s zero = []
-word-sum m w s (suc n) = word-sum m w s n ++ (word-term m w s n ∷ [])
+word-sum m w s n = listed (word-term m w s) n
 
 -- term t of the sums of all places, k terms each: place p is word p / k to the power 2^(p % k)
 abbrev pub word-sums-term : FieldData → ℕ → Term NetSet
