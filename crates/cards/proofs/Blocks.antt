@@ -65,7 +65,7 @@ row-own m n w j h l k =
 pub net-own : (p : ℕ) → p < 64 → net-model .own (one-net p) ≡ true
 net-own p h =
     and-from (leb (2 ^ p) (2 ^ 64 - 1)) _ (le-leb (2 ^ p) (2 ^ 64 - 1) (le-ones 64 (pow-lt h)))
-      (and-from (leb 0 (2 ^ 64 - 1)) _ (zero-leb (2 ^ 64 - 1)) (and-from (leb 0 (2 ^ 64 - 1)) _ (zero-leb (2 ^ 64 - 1)) (and-from (leb 0 (2 ^ 64 - 1)) true (zero-leb (2 ^ 64 - 1)) refl)))
+    (and-from (leb 0 (2 ^ 64 - 1)) _ (zero-leb (2 ^ 64 - 1)) (and-from (leb 0 (2 ^ 64 - 1)) _ (zero-leb (2 ^ 64 - 1)) (and-from (leb 0 (2 ^ 64 - 1)) true (zero-leb (2 ^ 64 - 1)) refl)))
 
 -- ---- places
 pub net-below : (w k i : ℕ) → w < 3 → k ≤ 8 → i < k → w * k + i < 64
@@ -116,14 +116,14 @@ module _ (m : FieldData) (l : FieldLaws m) (n : ℕ) (sums : List (Term (List �
   factors-same : Path (NetSet → List (List (Term (List ℕ)))) (λ s. chosen (net-held s) (block (m .width) sums) 0 (n * m .width)) (bit-factors m n (b .dual))
   factors-same = λ i s.
       chosen-same (net-held s) (block (m .width) sums) (λ p. bit-sum m (p / m .width) (b .dual (p % m .width)) (m .width)) (n * m .width)
-        (block-is (m .width) (n * m .width) (λ p. bit-term m (p / m .width) (b .dual (p % m .width))) sums whole bit-here) 0 (n * m .width) (omega arith) i
+      (block-is (m .width) (n * m .width) (λ p. bit-term m (p / m .width) (b .dual (p % m .width))) sums whole bit-here) 0 (n * m .width) (omega arith) i
 
   pub answered-by : (k : KindModel (List ℕ)) (w cap count : ℕ) (bits : List (Term NetSet)) (rows : List (Term (List ℕ))) (r : Result ℕ FullTable) → k ≡ card-kind m n → w ≡ m .width
       → Answered k (product m) cap count (λ s. chosen (net-held s) (block w sums) 0 (n * w)) bits rows r
       → Answered (card-kind m n) (product m) cap count (bit-factors m n (b .dual)) bits rows r
   answered-by k w cap count bits rows r ek ew a =
       subst (λ f. Answered (card-kind m n) (product m) cap count f bits rows r) factors-same
-        (subst₂ (λ (x : KindModel (List ℕ)) (v : ℕ). Answered x (product m) cap count (λ s. chosen (net-held s) (block v sums) 0 (n * v)) bits rows r) ek ew a)
+      (subst₂ (λ (x : KindModel (List ℕ)) (v : ℕ). Answered x (product m) cap count (λ s. chosen (net-held s) (block v sums) 0 (n * v)) bits rows r) ek ew a)
 
 -- the same for the sums of the words' powers
 module _ (m : FieldData) (l : FieldLaws m) (n : ℕ) (sums : List (Term NetSet)) (h : n ≤ 3) (b : WordSums m n sums) where
@@ -138,11 +138,11 @@ module _ (m : FieldData) (l : FieldLaws m) (n : ℕ) (sums : List (Term NetSet))
   words-same : Path (List ℕ → List (List (Term NetSet))) (λ r. chosen (row-held (m .width) r) (block (m .width) sums) 0 (n * m .width)) (word-factors m n)
   words-same = λ i r.
       chosen-same (row-held (m .width) r) (block (m .width) sums) (λ p. word-sum m (p / m .width) (p % m .width) (m .width)) (n * m .width)
-        (block-is (m .width) (n * m .width) (λ p. word-term m (p / m .width) (p % m .width)) sums words-whole word-here) 0 (n * m .width) (omega arith) i
+      (block-is (m .width) (n * m .width) (λ p. word-term m (p / m .width) (p % m .width)) sums words-whole word-here) 0 (n * m .width) (omega arith) i
 
   pub bits-answered-by : (w cap count : ℕ) (card : List (Term (List ℕ))) (rows : List (Term NetSet)) (r : Result ℕ FullTable) → w ≡ m .width
       → Answered net-model (product m) cap count (λ s. chosen (row-held w s) (block w sums) 0 (n * w)) card rows r
       → Answered net-model (product m) cap count (word-factors m n) card rows r
   bits-answered-by w cap count card rows r ew a =
       subst (λ f. Answered net-model (product m) cap count f card rows r) words-same
-        (subst (λ (v : ℕ). Answered net-model (product m) cap count (λ s. chosen (row-held v s) (block v sums) 0 (n * v)) card rows r) ew a)
+      (subst (λ (v : ℕ). Answered net-model (product m) cap count (λ s. chosen (row-held v s) (block v sums) 0 (n * v)) card rows r) ew a)

@@ -6,6 +6,7 @@ ghost use Rattle.terms.specs.Nets.{net-model};
 ghost use Rattle.terms.specs.Terms.{blank};
 ghost use Rattle.cards.specs.BitsWorking.{BitsAnswered};
 ghost use Rattle.cards.specs.Working.{word-count};
+use crate::sums::word_sums;
 use convert::Factors;
 use convert::convert;
 use convert::rows::ExponentBits;
@@ -16,7 +17,6 @@ use terms::Term;
 use terms::nets::NetSet;
 use terms::nets::Nets;
 use terms::nets::NetsKind;
-use crate::sums::word_sums;
 
 // The conversion for at most three words.
 fn work<F: Field>(

@@ -56,7 +56,10 @@ pub fn bit_sums<F: Field>(field: &F, n: usize) -> [Term<[u16; 3]>; 192]
 {
     let k = field.width() as usize;
     let powers = dual_squares(field);
-    let mut sums = [Term { code: 0, mono: [0; 3] }; 192];
+    let mut sums = [Term {
+        code: 0,
+        mono: [0; 3],
+    }; 192];
     for t in 0..n * k * k {
         let place = t / k;
         let j = t % k;
@@ -84,7 +87,9 @@ fn one_net(p: usize) -> NetSet
     requires { ⌜ p < 64 ⌝ }
     ensures { λ r. ⌜ r ≡ one-net p ⌝ }
 {
-    NetSet { words: [1 << p, 0, 0, 0] }
+    NetSet {
+        words: [1 << p, 0, 0, 0],
+    }
 }
 
 // The sums of the powers 1, 2, 4, … of `n` words: k terms for each place, in the places' order.
@@ -94,7 +99,10 @@ pub fn word_sums<F: Field>(field: &F, n: usize) -> [Term<NetSet>; 192]
 {
     let k = field.width() as usize;
     let powers = bit_squares(field);
-    let mut sums = [Term { code: 0, mono: NetSet { words: [0; 4] } }; 192];
+    let mut sums = [Term {
+        code: 0,
+        mono: NetSet { words: [0; 4] },
+    }; 192];
     for t in 0..n * k * k {
         let place = t / k;
         let i = t % k;

@@ -7,6 +7,7 @@ ghost use Rattle.terms.specs.Exps.{exp-model};
 ghost use Rattle.terms.specs.Terms.{blank};
 ghost use Rattle.cards.specs.Sums.{card-kind};
 ghost use Rattle.cards.specs.Working.{word-count, card-fault, CardAnswered};
+use crate::sums::bit_sums;
 use convert::Factors;
 use convert::FullTable;
 use convert::convert;
@@ -18,7 +19,6 @@ use terms::exps::Exps;
 use terms::exps::ExpsKind;
 use terms::nets::NetSet;
 use terms::nets::Nets;
-use crate::sums::bit_sums;
 
 // The exponent rows of `n` words over the field.
 fn exponent_rows<F: Field>(field: &F, n: usize) -> Exps

@@ -17,7 +17,6 @@ use Rattle.convert.proofs.Steps.{monos-append}
 use Rattle.convert.specs.Convert.{then, multiplying, expanding, Converted, finished, noted, joined, converting}
 use Rattle.algebra.specs.Terms as A
 
-
 -- the monomials that are P are numbered below N, in their order, and closed under products
 pub record Counted {M : Type 0} (k : KindModel M) (P : M → Type 0) (N : ℕ) : Type 0 where
   pub number : M → ℕ

@@ -282,7 +282,16 @@ fn convert_even<S: Copy, M: Copy, K: Kind<M>, F: Field, H: Holds<S>>(
     let mut one = TermTable::new(kind, first);
     let mut two = TermTable::new(kind, second);
     let mut out = TermTable::new(kind, result);
-    let end = work(kind, field, source, terms, factors, &mut one, &mut two, &mut out);
+    let end = work(
+        kind,
+        field,
+        source,
+        terms,
+        factors,
+        &mut one,
+        &mut two,
+        &mut out,
+    );
     one.clear(kind);
     two.clear(kind);
     match end {
@@ -321,5 +330,14 @@ pub fn convert<S: Copy, M: Copy, K: Kind<M>, F: Field, H: Holds<S>>(
     clear_rows(kind, first);
     clear_rows(kind, second);
     let cap = smaller(first.len(), second.len());
-    convert_even(kind, field, source, terms, factors, &mut first[0..cap], &mut second[0..cap], result)
+    convert_even(
+        kind,
+        field,
+        source,
+        terms,
+        factors,
+        &mut first[0..cap],
+        &mut second[0..cap],
+        result,
+    )
 }

@@ -42,12 +42,13 @@ loop-t-again g c =
     let b = word-below n k t kp (c .loop-t-test .taken) in
     let lt : t < length (c .loop-t .sums) = omega (arith, c .loop-t .inv .0, few-terms n k (c .pre) wide, c .loop-t-test .taken) in
     let own : net-model .own (c .one-net .result) ≡ true =
-          subst (λ s. net-model .own s ≡ true) (sym (c .one-net .ensures)) (net-own (t / k / k * k + t % k) (net-below (t / k / k) k (t % k) (omega (arith, b, c .pre)) wide (mod-lt t kp))) in
-    (simp length-set (c .loop-t .inv .0),
+    subst (λ s. net-model .own s ≡ true) (sym (c .one-net .ensures)) (net-own (t / k / k * k + t % k) (net-below (t / k / k) k (t % k) (omega (arith, b, c .pre)) wide (mod-lt t kp))) in (
+      simp length-set (c .loop-t .inv .0),
       monos-set (λ s. net-model .own s ≡ true) (c .loop-t .sums) t _ (c .loop-t .inv .1) own,
       below-more _ _
-        (λ i h x. let ne : i ≢ t = omega arith in rw getD-set-other (c .loop-t .inv .2 i h x))
-        (λ x. rw getD-set-same (ap (λ s. term (getD (getD (c .bit-squares-powers .result) (t % k) []) (t / k % k) 0) s) (c .one-net .ensures))))
+          (λ i h x. let ne : i ≢ t = omega arith in rw getD-set-other (c .loop-t .inv .2 i h x))
+          (λ x. rw getD-set-same (ap (λ s. term (getD (getD (c .bit-squares-powers .result) (t % k) []) (t / k % k) 0) s) (c .one-net .ensures))),
+    )
 
 pub returns : need.returns
 returns g c =
