@@ -19,14 +19,17 @@ use Rattle.algebra.specs.Ops.{atRow}
 use Rattle.std.specs.declared.result.Result.{Result}
 use Rattle.terms.specs.Exps.{limit, tops-of}
 use Rattle.terms.specs.Kind.{KindModel}
+use Rattle.terms.specs.Nets.{net-model}
 use Rattle.terms.specs.Numbers.{inside}
 use Rattle.terms.specs.Terms.{Monos}
 use Rattle.terms.specs.declared.Term.{Term}
 use Rattle.terms.specs.declared.nets.NetSet.{NetSet}
 use Rattle.convert.specs.Convert.{block, chosen, Answered}
 use Rattle.terms.specs.Sets.{holds}
+use Rattle.convert.specs.Places.{row-held}
 use Rattle.convert.specs.declared.FullTable.{FullTable}
-use Rattle.cards.specs.Sums.{bit-term, bit-sum, sums-term, card-kind, BitSums}
+use Rattle.cards.specs.Sums.{listed, bit-term, bit-sum, card-kind, BitSums, one-net, word-term, word-sum, WordSums}
+use Rattle.cards.specs.BitsWorking.{word-factors}
 use Rattle.cards.specs.Working.{bit-factors}
 
 -- ---- own rows
@@ -60,7 +63,15 @@ row-own m n w j h l k =
     let e : 2 ^ j ≤ q - 1 = le-ones (m .width) (pow-lt k) in
     at-inside (limit q n 0) (limit q n 1) (limit q n 2) w (2 ^ j) (omega arith) (subst (λ x. 2 ^ j ≤ x) (sym (limit-at q n w h l)) e)
 
+pub net-own : (p : ℕ) → p < 64 → net-model .own (one-net p) ≡ true
+net-own p h =
+    and-from (leb (2 ^ p) (2 ^ 64 - 1)) _ (le-leb (2 ^ p) (2 ^ 64 - 1) (le-ones 64 (pow-lt h)))
+    (and-from (leb 0 (2 ^ 64 - 1)) _ (zero-leb (2 ^ 64 - 1)) (and-from (leb 0 (2 ^ 64 - 1)) _ (zero-leb (2 ^ 64 - 1)) (and-from (leb 0 (2 ^ 64 - 1)) true (zero-leb (2 ^ 64 - 1)) refl)))
+
 -- ---- places
+pub net-below : (w k i : ℕ) → w < 3 → k ≤ 8 → i < k → w * k + i < 64
+net-below w k i h u v = let a = digits-lt h v in let b : 3 * k ≤ 24 = omega arith in omega arith
+
 pub word-below : (n k t : ℕ) → 0 < k → t < n * k * k → t / k / k < n
 word-below n k t h l = div-lt-iff-lt-mul h .1 (div-lt-iff-lt-mul h .1 l)
 
@@ -68,33 +79,22 @@ pub few-terms : (n k : ℕ) → n ≤ 3 → k ≤ 8 → n * k * k ≤ 192
 few-terms n k h l = mul-le-mul (mul-le-mul h l) l
 
 -- ---- blocks
-module _ (m : FieldData) (l : FieldLaws m) (d : ℕ → ℕ) (n : ℕ) (sums : List (Term (List ℕ)))
-    (long : n * m .width * m .width ≤ length sums)
-    (terms : (t : ℕ) → t < n * m .width * m .width → (x : Term (List ℕ)) → getD sums t x ≡ sums-term m d t) where
-  wp : 0 < m .width
-  wp = let h = l .narrow in omega arith
-
-  -- the term at place p, number j
-  here : (p j : ℕ) → p < n * m .width → j < m .width → (x : Term (List ℕ)) → getD sums (p * m .width + j) x ≡ bit-term m (p / m .width) (d (p % m .width)) j
-  here p j h k x =
-      terms (p * m .width + j) (digits-lt h k) x
-      ∙ ap₂ (λ a b. bit-term m (a / m .width) (d (a % m .width)) b) (digits-div p k) (digits-mod p k)
-
-  front : (p : ℕ) → p < n * m .width → (j : ℕ) → j ≤ m .width → take j (drop (p * m .width) sums) ≡ bit-sum m (p / m .width) (d (p % m .width)) j
+module _ {M : Type 0} (k places : ℕ) (f : ℕ → ℕ → Term M) (sums : List (Term M)) (long : places * k ≤ length sums)
+    (terms : (p j : ℕ) → p < places → j < k → (x : Term M) → getD sums (p * k + j) x ≡ f p j) where
+  front : (p : ℕ) → p < places → (j : ℕ) → j ≤ k → take j (drop (p * k) sums) ≡ listed (f p) j
   front p h zero u = refl
   front p h (suc j) u =
-      let x = bit-term m (p / m .width) (d (p % m .width)) j in
-      let rest = drop (p * m .width) sums in
-      let fits : p * m .width + j < n * m .width * m .width = digits-lt h u in
-      let lr : length rest ≡ length sums - p * m .width = length-drop (p * m .width) sums in
+      let rest = drop (p * k) sums in
+      let fits : p * k + j < places * k = digits-lt h u in
+      let lr : length rest ≡ length sums - p * k = length-drop (p * k) sums in
       let lt : j < length rest = omega (arith, lr, fits, long) in
       let s : suc j ≡ j + 1 = omega arith in
-      ap (λ i. take i rest) s ∙ take-more rest j x lt
-      ∙ ap₂ (λ a b. a ++ (b ∷ [])) (front p h j (omega arith)) (getD-drop (p * m .width) sums j x ∙ here p j h u x)
+      ap (λ i. take i rest) s ∙ take-more rest j (f p j) lt
+      ∙ ap₂ (λ a b. a ++ (b ∷ [])) (front p h j (omega arith)) (getD-drop (p * k) sums j (f p j) ∙ terms p j h u (f p j))
 
-  -- block p is the sum for the bit of place p
-  pub block-is : (p : ℕ) → p < n * m .width → block (m .width) sums p ≡ bit-sum m (p / m .width) (d (p % m .width)) (m .width)
-  block-is p h = front p h (m .width) (omega arith)
+  -- block p has the terms of place p
+  pub block-is : (p : ℕ) → p < places → block k sums p ≡ listed (f p) k
+  block-is p h = front p h k (omega arith)
 
 -- the same factors chosen
 pub chosen-same : {M : Type 0} (held : ℕ → Bool) (f g : ℕ → List (Term M)) (places : ℕ) → ((p : ℕ) → p < places → f p ≡ g p)
@@ -109,14 +109,41 @@ module _ (m : FieldData) (l : FieldLaws m) (n : ℕ) (sums : List (Term (List �
   pub whole : n * m .width * m .width ≤ length sums
   whole = let f = few-terms n (m .width) h (l .wide) in omega (arith, b .count)
 
+  bit-here : (p j : ℕ) → p < n * m .width → j < m .width → (x : Term (List ℕ)) → getD sums (p * m .width + j) x ≡ bit-term m (p / m .width) (b .dual (p % m .width)) j
+  bit-here p j u v x =
+      b .terms (p * m .width + j) (digits-lt u v) x
+      ∙ ap₂ (λ a c. bit-term m (a / m .width) (b .dual (a % m .width)) c) (digits-div p v) (digits-mod p v)
+
   factors-same : Path (NetSet → List (List (Term (List ℕ)))) (λ s. chosen (holds s) (block (m .width) sums) 0 (n * m .width)) (bit-factors m n (b .dual))
   factors-same = λ i s.
       chosen-same (holds s) (block (m .width) sums) (λ p. bit-sum m (p / m .width) (b .dual (p % m .width)) (m .width)) (n * m .width)
-        (block-is m l (b .dual) n sums whole (b .terms)) 0 (n * m .width) (omega arith) i
+      (block-is (m .width) (n * m .width) (λ p. bit-term m (p / m .width) (b .dual (p % m .width))) sums whole bit-here) 0 (n * m .width) (omega arith) i
 
   pub answered-by : (k : KindModel (List ℕ)) (w cap count : ℕ) (bits : List (Term NetSet)) (rows : List (Term (List ℕ))) (r : Result ℕ FullTable) → k ≡ card-kind m n → w ≡ m .width
       → Answered k (product m) cap count (λ s. chosen (holds s) (block w sums) 0 (n * w)) bits rows r
       → Answered (card-kind m n) (product m) cap count (bit-factors m n (b .dual)) bits rows r
   answered-by k w cap count bits rows r ek ew a =
       subst (λ f. Answered (card-kind m n) (product m) cap count f bits rows r) factors-same
-        (subst₂ (λ (x : KindModel (List ℕ)) (v : ℕ). Answered x (product m) cap count (λ s. chosen (holds s) (block v sums) 0 (n * v)) bits rows r) ek ew a)
+      (subst₂ (λ (x : KindModel (List ℕ)) (v : ℕ). Answered x (product m) cap count (λ s. chosen (holds s) (block v sums) 0 (n * v)) bits rows r) ek ew a)
+
+-- the same for the sums of the words' powers
+module _ (m : FieldData) (l : FieldLaws m) (n : ℕ) (sums : List (Term NetSet)) (h : n ≤ 3) (b : WordSums m n sums) where
+  pub words-whole : n * m .width * m .width ≤ length sums
+  words-whole = let f = few-terms n (m .width) h (l .wide) in omega (arith, b .count)
+
+  word-here : (p j : ℕ) → p < n * m .width → j < m .width → (x : Term NetSet) → getD sums (p * m .width + j) x ≡ word-term m (p / m .width) (p % m .width) j
+  word-here p j u v x =
+      b .terms (p * m .width + j) (digits-lt u v) x
+      ∙ ap₂ (λ a c. word-term m (a / m .width) (a % m .width) c) (digits-div p v) (digits-mod p v)
+
+  words-same : Path (List ℕ → List (List (Term NetSet))) (λ r. chosen (row-held (m .width) r) (block (m .width) sums) 0 (n * m .width)) (word-factors m n)
+  words-same = λ i r.
+      chosen-same (row-held (m .width) r) (block (m .width) sums) (λ p. word-sum m (p / m .width) (p % m .width) (m .width)) (n * m .width)
+      (block-is (m .width) (n * m .width) (λ p. word-term m (p / m .width) (p % m .width)) sums words-whole word-here) 0 (n * m .width) (omega arith) i
+
+  pub bits-answered-by : (w cap count : ℕ) (card : List (Term (List ℕ))) (rows : List (Term NetSet)) (r : Result ℕ FullTable) → w ≡ m .width
+      → Answered net-model (product m) cap count (λ s. chosen (row-held w s) (block w sums) 0 (n * w)) card rows r
+      → Answered net-model (product m) cap count (word-factors m n) card rows r
+  bits-answered-by w cap count card rows r ew a =
+      subst (λ f. Answered net-model (product m) cap count f card rows r) words-same
+      (subst (λ (v : ℕ). Answered net-model (product m) cap count (λ s. chosen (row-held v s) (block v sums) 0 (n * v)) card rows r) ew a)

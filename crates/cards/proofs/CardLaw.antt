@@ -185,13 +185,13 @@ cut-power m (l ∷ ls) (e ∷ r) (x ∷ xs) h =
     same : (leb e l ≡ true) × (inside ls r ≡ true) → power m x e ≡ power m (cond (eqb l 0) 0 x) e
     same p =
         ⊎-elim
-          (λ b.
-            let u : l ≡ 0 = eqb-true l 0 b in
-            let v : e ≤ l = leb-true e l (p .0) in
-            let w : e ≡ 0 = omega arith in
-            subst (λ (i : ℕ). power m x i ≡ power m (cond (eqb l 0) 0 x) i) (sym w) refl)
-          (λ b. ap (λ (y : ℕ). power m y e) (sym (cond-false (eqb l 0) 0 x b)))
-          (cases-bool (eqb l 0))
+        (λ b.
+        let u : l ≡ 0 = eqb-true l 0 b in
+        let v : e ≤ l = leb-true e l (p .0) in
+        let w : e ≡ 0 = omega arith in
+        subst (λ (i : ℕ). power m x i ≡ power m (cond (eqb l 0) 0 x) i) (sym w) refl)
+        (λ b. ap (λ (y : ℕ). power m y e) (sym (cond-false (eqb l 0) 0 x b)))
+        (cases-bool (eqb l 0))
 
 cut-inside : (q : ℕ) (ls xs : List ℕ) → A.All (λ l. (l ≡ 0) ⊎ (l ≡ q - 1)) ls → Row q (length ls) xs → inside ls (cut ls xs) ≡ true
 unfolding cut
@@ -200,10 +200,10 @@ cut-inside q [] (x ∷ xs) a u = absurd u
 cut-inside q (l ∷ ls) [] a u = absurd u
 cut-inside q (l ∷ ls) (x ∷ xs) a u =
     and-from (leb (cond (eqb l 0) 0 x) l) (inside ls (cut ls xs))
-      (cond-both (eqb l 0) 0 x (λ (y : ℕ). leb y l ≡ true)
-        (λ _. le-leb 0 l (omega arith))
-        (λ b. le-leb x l (let v : x < q = u .0 in ⊎-elim (λ e. absurd (eqb-false l 0 b e)) (λ (e : l ≡ q - 1). let w : x ≤ l = omega arith in w) (a .0))))
-      (cut-inside q ls xs (a .1) (u .1))
+    (cond-both (eqb l 0) 0 x (λ (y : ℕ). leb y l ≡ true)
+    (λ _. le-leb 0 l (omega arith))
+    (λ b. le-leb x l (let v : x < q = u .0 in ⊎-elim (λ e. absurd (eqb-false l 0 b e)) (λ (e : l ≡ q - 1). let w : x ≤ l = omega arith in w) (a .0))))
+    (cut-inside q ls xs (a .1) (u .1))
 
 value-cut : (m : FieldData) (ls : List ℕ) (ts : List (Term (List ℕ))) (xs : List ℕ) → Monos (λ r. inside ls r ≡ true) ts → card-value m ts xs ≡ card-value m ts (cut ls xs)
 value-cut m ls [] xs u = refl
@@ -335,8 +335,8 @@ module _ (m : FieldData) (l : FieldLaws m) (n : ℕ) (few : n ≤ 3) (d : ℕ �
       polynomial = record { codes = us-codes; nonzero = row-nonzero m us (made .rows); rows = us-rows; falling = kept cap rows bits us e .0 };
       values = values;
       only = λ p o v.
-        let same : plain p ≡ plain us = field-theory m l .only 3 (plain p) (plain us) (card-rows m n p (o .codes) (o .nonzero) (o .rows)) (falling-plain m n p (o .falling)) (made .rows) (made .falling) (agree p (o .rows) v) in
-        sym (back-plain p) ∙ ap back same ∙ back-plain us;
+          let same : plain p ≡ plain us = field-theory m l .only 3 (plain p) (plain us) (card-rows m n p (o .codes) (o .nonzero) (o .rows)) (falling-plain m n p (o .falling)) (made .rows) (made .falling) (agree p (o .rows) v) in
+          sym (back-plain p) ∙ ap back same ∙ back-plain us;
     }
 
 -- the whole answer, from that of the conversion

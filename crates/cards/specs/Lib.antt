@@ -1,3 +1,4 @@
 pub mod Sums
 pub mod Law
 pub mod Working
+pub mod BitsWorking

@@ -9,6 +9,7 @@ ghost use Rattle.terms.specs.Exps.{exp-model};
 ghost use Rattle.terms.specs.Terms.{blank};
 ghost use Rattle.cards.specs.Sums.{card-kind};
 ghost use Rattle.cards.specs.Working.{word-count, card-fault, CardAnswered};
+use crate::sums::bit_sums;
 use convert::Factors;
 use convert::FullTable;
 use convert::convert;
@@ -20,7 +21,6 @@ use terms::exps::Exps;
 use terms::exps::ExpsKind;
 use terms::nets::NetSet;
 use terms::nets::Nets;
-use crate::sums::bit_sums;
 
 // The largest exponent of word `w`, where there are `n` words.
 fn largest(top: u16, w: usize, n: usize) -> u16

@@ -1,5 +1,6 @@
 // Conversions between bit forms and polynomials in words, worked term by term through tables of lent rows.
 pub mod nets;
+pub mod rows;
 
 ghost use mathlib.Core.Path.{_≡_};
 ghost use mathlib.Core.List.{List, [], _∷_};
@@ -289,7 +290,16 @@ fn convert_even<S: Copy, M: Copy, K: Kind<M>, F: Field, H: Holds<S>>(
     let mut one = TermTable::new(kind, first);
     let mut two = TermTable::new(kind, second);
     let mut out = TermTable::new(kind, result);
-    let end = work(kind, field, source, terms, factors, &mut one, &mut two, &mut out);
+    let end = work(
+        kind,
+        field,
+        source,
+        terms,
+        factors,
+        &mut one,
+        &mut two,
+        &mut out,
+    );
     one.clear(kind);
     two.clear(kind);
     match end {
@@ -328,5 +338,14 @@ pub fn convert<S: Copy, M: Copy, K: Kind<M>, F: Field, H: Holds<S>>(
     clear_rows(kind, first);
     clear_rows(kind, second);
     let cap = smaller(first.len(), second.len());
-    convert_even(kind, field, source, terms, factors, &mut first[0..cap], &mut second[0..cap], result)
+    convert_even(
+        kind,
+        field,
+        source,
+        terms,
+        factors,
+        &mut first[0..cap],
+        &mut second[0..cap],
+        result,
+    )
 }

@@ -52,12 +52,13 @@ loop-t-again g c =
     let lt : t < length (c .loop-t .sums) = omega (arith, c .loop-t .inv .0, few-terms n k (c .pre) wide, c .loop-t-test .taken) in
     let row : c .at-word .result ≡ atRow 3 (t / k / k) (2 ^ (t % k)) = c .at-word .ensures ∙ ap (atRow 3 (t / k / k)) one in
     let own : card-kind m n .own (c .at-word .result) ≡ true =
-          subst (λ r. card-kind m n .own r ≡ true) (sym row) (row-own m n (t / k / k) (t % k) (word-below n k t kp (c .loop-t-test .taken)) (c .pre) (omega arith)) in
-    (simp length-set (c .loop-t .inv .0),
+    subst (λ r. card-kind m n .own r ≡ true) (sym row) (row-own m n (t / k / k) (t % k) (word-below n k t kp (c .loop-t-test .taken)) (c .pre) (omega arith)) in (
+      simp length-set (c .loop-t .inv .0),
       monos-set (λ r. card-kind m n .own r ≡ true) (c .loop-t .sums) t _ (c .loop-t .inv .1) own,
       below-more _ _
-        (λ i h x. let ne : i ≢ t = omega arith in rw getD-set-other (c .loop-t .inv .2 i h x))
-        (λ x. rw getD-set-same (ap (λ r. term (getD (getD (c .dual-squares-powers .result) (t / k % k) []) (t % k) 0) r) row)))
+          (λ i h x. let ne : i ≢ t = omega arith in rw getD-set-other (c .loop-t .inv .2 i h x))
+          (λ x. rw getD-set-same (ap (λ r. term (getD (getD (c .dual-squares-powers .result) (t / k % k) []) (t % k) 0) r) row)),
+    )
 
 pub returns : need.returns
 returns g c =

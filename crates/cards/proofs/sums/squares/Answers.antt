@@ -19,9 +19,10 @@ pub loop-j-again : need.loop-j-again
 loop-j-again g c =
     let m = g .F·Field .model (c .args .field .now) in
     let l = g .F·Field·met .holds (c .args .field .now) in
-    let lt : c .loop-j .j < length (c .loop-j .row) = omega (arith, c .loop-j .inv .0) in
-    (simp length-set (c .loop-j .inv .0),
+    let lt : c .loop-j .j < length (c .loop-j .row) = omega (arith, c .loop-j .inv .0) in (
+      simp length-set (c .loop-j .inv .0),
       rw add-one (c .mul-y .ensures ∙ next-power m l (c .args .x) (c .loop-j .j) (c .loop-j .y) (c .pre) (c .loop-j .inv .1)),
       below-more _ _
-        (λ i h. let ne : i ≢ c .loop-j .j = omega arith in rw getD-set-other (c .loop-j .inv .2 i h))
-        (rw getD-set-same (c .loop-j .inv .1)))
+          (λ i h. let ne : i ≢ c .loop-j .j = omega arith in rw getD-set-other (c .loop-j .inv .2 i h))
+          (rw getD-set-same (c .loop-j .inv .1)),
+    )

@@ -1,0 +1,39 @@
+-- The working from a polynomial in the words to its bit form, and what is answered. Assumes nothing.
+use mathlib.Core.Path.{_≡_}
+use mathlib.Core.List.{List, []}
+use Prim.Native.Nat.{ℕ, _*_, _/_, _%_, _≤_}
+use lib.ListN.{take, replicate}
+use Rattle.std.specs.declared.result.Result.{Result}
+use Rattle.std.specs.declared.result.Result.the-variants.{Ok, Err}
+use Rattle.algebra.specs.Field.{FieldData, product}
+use Rattle.fault.specs.declared.Fault.{Fault}
+use Rattle.fault.specs.declared.Fault.the-variants.{BitTableFull}
+use Rattle.terms.specs.Nets.{net-model}
+use Rattle.terms.specs.Terms.{blank, Table}
+use Rattle.terms.specs.declared.Term.{Term}
+use Rattle.terms.specs.declared.nets.NetSet.{NetSet}
+use Rattle.convert.specs.Convert.{chosen, Converted, finished, stopped, converting}
+use Rattle.convert.specs.Places.{row-held}
+use Rattle.convert.specs.declared.FullTable.{FullTable}
+use Rattle.cards.specs.Sums.{word-sum}
+
+-- the factors of an exponent row of n words: for each word w, rising, and each one bit s of its exponent, rising, the word to the power 2^s
+abbrev pub word-factors : FieldData → ℕ → List ℕ → List (List (Term NetSet))
+word-factors m n r = chosen (row-held (m .width) r) (λ p. word-sum m (p / m .width) (p % m .width) (m .width)) 0 (n * m .width)
+
+-- the working from a polynomial to its bit form, with product tables of `cap` rows and a result table of `rows` rows
+abbrev pub bits-working : FieldData → ℕ → ℕ → ℕ → List (Term (List ℕ)) → Converted NetSet
+bits-working m n cap rows card = converting net-model (product m) cap rows (word-factors m n) card []
+
+-- the answer to a working that ended in `end`, and the rows of the result table then: the number of terms, with the terms, then zero rows; or the refusal where a table was full, with zero rows only
+abbrev pub BitsEnd : Converted NetSet → ℕ → List (Term NetSet) → Result ℕ Fault → Type 0
+BitsEnd end count rows (Ok t) = (end ≡ finished (take t rows)) × Table net-model rows t
+BitsEnd end count rows (Err e) = (t : FullTable) × (end ≡ stopped t) × (e ≡ BitTableFull) × (rows ≡ replicate count (blank net-model))
+
+-- the answer to a call with product tables of `cap` rows and a result table of `count` rows, which are `rows` then
+pub record BitsAnswered (m : FieldData) (n cap count : ℕ) (card : List (Term (List ℕ))) (rows : List (Term NetSet)) (answer : Result ℕ Fault) : Type 0 where
+  -- it is that of the working
+  pub worked : BitsEnd (bits-working m n cap count card) count rows answer
+  -- a working that ends, ends the same with more rows
+  pub more : (cap′ count′ : ℕ) → cap ≤ cap′ → count ≤ count′ → (form : List (Term NetSet)) → bits-working m n cap count card ≡ finished form
+      → bits-working m n cap′ count′ card ≡ finished form
