@@ -1,35 +1,34 @@
 -- What the working ends in. Assumes nothing.
 use mathlib.Core.Path.{_≡_, refl, sym, ap, ap₂, subst, _∙_}
-use mathlib.Core.Bool.{Bool, true, false, _||_, _&&_, not, cond, xor}
-use mathlib.Core.Logic.{_⊎_, inl, inr, ⊎-elim}
+use mathlib.Core.Bool.{Bool, true, false, _||_, _&&_, not, cond}
+use mathlib.Core.Logic.{_⊎_, ⊎-elim}
 use mathlib.Core.List.{List, [], _∷_, map}
-use Prim.Native.Nat.{ℕ, zero, suc, _+_, _-_, _*_, _^_, _<_, _≤_}
-use native.Mathlib.Nat.{mul-le-mul, mul-one, zero-mul, mul-assoc, add-mul, not-suc-le-zero, add-zero}
+use Prim.Native.Nat.{ℕ, suc, _+_, _-_, _*_, _^_, _<_, _≤_}
+use native.Mathlib.Nat.{mul-one, zero-mul, mul-assoc, add-mul}
 use native.Mathlib.Omega.{arith}
-use lib.Bits.{bitXor, xor-zero-l, xor-zero-r, xor-comm, xor-shifted, xor-lt}
+use lib.Bits.{bitXor, xor-zero-r, xor-comm, xor-shifted, xor-lt}
 use lib.Pow.{pow-pos, pow-lt}
-use lib.Dec.{eqb, ltb}
+use lib.Dec.{eqb}
 use lib.ListN.{length, getD}
-use Rattle.std.proofs.shelf.Tests.{cases-bool, cases-order, cases-lt, eqb-true, eqb-false, eq-eqb, or-cases, and-parts, true≢false}
-use Rattle.terms.specs.Kind.{KindModel, KindLaws}
-use Rattle.terms.specs.Terms.{added, value, Monos, Falling, Under, Nonzero}
+use Rattle.std.proofs.shelf.Tests.{cases-order, eqb-true, eq-eqb, or-cases, and-parts, true≢false}
+use Rattle.terms.specs.Terms.{value, Monos, Under}
 use Rattle.terms.specs.Nets.{net-model}
 use Rattle.terms.specs.declared.Term.{Term}
 use Rattle.terms.specs.declared.nets.NetSet.{NetSet}
-use Rattle.terms.proofs.Laws.{added-codes, added-monos, added-falling, added-nonzero, added-under}
+use Rattle.terms.proofs.Laws.{added-codes, added-monos, added-falling, added-nonzero}
 use Rattle.terms.proofs.BothKinds.{net-laws}
 use Rattle.netlist.specs.declared.gate.Gate.{Gate}
 use Rattle.netlist.specs.declared.gate.Gate.the-variants.{And, Or, Xor, Nand, Nor, Xnor, Not, Buf, Zero, One}
-use Rattle.netlist.specs.Circuits.{Circuit, WellFormed, Below, Driven, nets-of, inputs, nets}
-use Rattle.netlist.specs.Meaning.{tail, parity, bit, word, output, input-bits}
+use Rattle.netlist.specs.Circuits.{Circuit, WellFormed, Below, nets-of, inputs, nets}
+use Rattle.netlist.specs.Meaning.{tail, bit, word, output, input-bits}
 use Rattle.netlist.proofs.Formed.{few-nets, driven-reads}
 use Rattle.netlist.proofs.Inputs.{inputs-placed}
 use Rattle.netlist.proofs.Meanings.{tails-agree, kept}
-use Rattle.terms.specs.Sets.{holds, among, Own, Within, Top, SetOf, Greatest, Net-laws}
+use Rattle.terms.specs.Sets.{holds, among, Own, Within, Top, SetOf, Net-laws}
 use Rattle.terms.specs.Additions.{Ended, done, full, adding}
 use Rattle.gates.specs.Reductions.{OutTerms, Put, TailTerms, Reduces, empty, bits, stops, step, Worked, goes}
 use Rattle.terms.specs.Values.{every, set-on, value-at}
-use Rattle.gates.specs.Forms.{Terms-of, Keeps, Bit-form, Right-end, bit-at, Value-at-words}
+use Rattle.gates.specs.Forms.{Terms-of, Keeps, Right-end, bit-at, Value-at-words}
 use Rattle.gates.proofs.Lit.{every-same, on-among}
 use Rattle.terms.proofs.Additions.{Terms-all, adding-keeps}
 use Rattle.gates.proofs.Kept.{All-below, value-at-adding, value-at-step}

@@ -1,25 +1,24 @@
 -- The working always ends, and some number of rows suffices. Assumes nothing.
-use mathlib.Core.Path.{_≡_, refl, sym, ap, ap₂, subst, _∙_}
-use mathlib.Core.Bool.{Bool, true, false, _||_, _&&_, not, cond}
+use mathlib.Core.Path.{_≡_, refl, sym, ap, _∙_}
+use mathlib.Core.Bool.{Bool, true, false, _||_}
 use mathlib.Core.Logic.{_⊎_, inl, inr, ⊎-elim}
 use mathlib.Core.List.{List, [], _∷_}
-use Prim.Native.Nat.{ℕ, zero, suc, _+_, _-_, _*_, _^_, _<_, _≤_, max}
+use Prim.Native.Nat.{ℕ, zero, suc, _+_, _-_, _<_, _≤_}
 use native.Mathlib.Nat.{not-suc-le-zero}
 use native.Mathlib.Omega.{arith}
-use lib.Dec.{eqb, ltb}
+use lib.Dec.{eqb}
 use lib.ListN.{length, getD}
-use Rattle.std.proofs.shelf.Tests.{cases-bool, cases-lt, cases-eq, cond-false, le-ltb, eqb-true}
-use Rattle.terms.specs.Kind.{KindModel}
-use Rattle.terms.specs.Terms.{term, added}
+use Rattle.std.proofs.shelf.Tests.{cases-bool, cases-lt, cases-eq}
+use Rattle.terms.specs.Terms.{added}
 use Rattle.terms.specs.Nets.{net-model}
 use Rattle.terms.specs.declared.Term.{Term}
 use Rattle.terms.specs.declared.nets.NetSet.{NetSet}
 use Rattle.netlist.specs.declared.gate.Gate.the-variants.{Zero}
 use Rattle.netlist.specs.Circuits.{Circuit, WellFormed, Below, inputs}
 use Rattle.netlist.specs.Meaning.{tail}
-use Rattle.terms.specs.Sets.{holds, among, Own, Within, Top, SetOf}
+use Rattle.terms.specs.Sets.{holds, among, Own, Within, Top}
 use Rattle.terms.specs.Additions.{Ended, done, full, adding}
-use Rattle.gates.specs.Reductions.{TailTerms, Reduces, empty, bits, stops, step, Worked}
+use Rattle.gates.specs.Reductions.{TailTerms, Reduces, empty, bits, stops, step}
 use Rattle.gates.specs.Forms.{Terms-of, Enough-rows, Always-ends}
 use Rattle.gates.specs.Tails.{Joined, Joins, each}
 use Rattle.gates.proofs.Kept.{All-below}

@@ -1,19 +1,16 @@
 -- Each turn of the reduction: what comes in, what it leaves, and that the leading set falls. Assumes nothing.
-use mathlib.Core.Path.{_≡_, refl, sym, ap, ap₂, subst, _∙_}
-use mathlib.Core.Bool.{Bool, true, false, _||_, _&&_, not, cond}
-use mathlib.Core.Logic.{_⊎_, inl, inr, ⊎-elim}
+use mathlib.Core.Path.{_≡_, refl, sym, ap, subst, _∙_}
+use mathlib.Core.Bool.{true, false, _||_, _&&_, not}
+use mathlib.Core.Logic.{_⊎_, ⊎-elim}
 use mathlib.Core.List.{List, [], _∷_}
-use Prim.Native.Nat.{ℕ, zero, suc, _+_, _-_, _*_, _^_, _<_, _≤_, zero-le, suc-le-suc}
-use native.Mathlib.Nat.{not-suc-le-zero}
+use Prim.Native.Nat.{ℕ, suc, _+_, _-_, _<_, _≤_, zero-le, suc-le-suc}
 use native.Mathlib.Omega.{arith}
-use lib.Dec.{eqb, ltb}
-use lib.ListN.{length, getD, take}
-use Rattle.std.proofs.shelf.Lists.{length-take, getD-take, getD-default}
-use Rattle.std.proofs.shelf.Tests.{cases-bool, true≢false}
+use lib.Dec.{eqb}
+use lib.ListN.{length, getD}
+use Rattle.std.proofs.shelf.Tests.{cases-bool}
 use Rattle.std.specs.declared.option.Option.{Option}
 use Rattle.std.specs.declared.option.Option.the-variants.{Some, None}
-use Rattle.terms.specs.Kind.{KindModel, KindLaws}
-use Rattle.terms.specs.Terms.{term, added, Monos, Falling, Under}
+use Rattle.terms.specs.Terms.{term, Monos, Under}
 use Rattle.terms.specs.Lent.{live, capacity, Off}
 use Rattle.terms.specs.Nets.{net-model}
 use Rattle.terms.specs.declared.Term.{Term}
@@ -21,18 +18,17 @@ use Rattle.terms.specs.declared.table.TermTable.{TermTable}
 use Rattle.terms.specs.declared.nets.NetSet.{NetSet}
 use Rattle.terms.proofs.Laws.{added-under}
 use Rattle.terms.proofs.BothKinds.{net-laws}
-use Rattle.netlist.specs.declared.gate.Gate.{Gate}
 use Rattle.netlist.specs.declared.gate.Gate.the-variants.{Zero}
 use Rattle.netlist.specs.Circuits.{Circuit, WellFormed, inputs}
 use Rattle.netlist.specs.Meaning.{tail}
-use Rattle.terms.specs.Sets.{holds, among, Own, Within, Top, SetOf, Greatest}
+use Rattle.terms.specs.Sets.{holds, among, Own, Within, Top}
 use Rattle.terms.specs.Additions.{Ended, done, full, adding}
-use Rattle.gates.specs.Reductions.{OutTerms, Put, TailTerms, Reduces, empty, bits, stops, step}
+use Rattle.gates.specs.Reductions.{TailTerms, Reduces, empty, bits, stops, step}
 use Rattle.gates.specs.Forms.{Terms-of}
-use Rattle.gates.specs.Tails.{Joined, Joins, each}
+use Rattle.gates.specs.Tails.{Joins, each}
 use Rattle.terms.proofs.Additions.{Terms-all, adding-keeps}
 use Rattle.gates.proofs.Kept.{All-below}
-use Rattle.terms.proofs.Members.{number, number-less, greatest-less, never}
+use Rattle.terms.proofs.Members.{number, number-less, greatest-less}
 use Rattle.netlist.proofs.Formed.{driven-reads}
 use Rattle.gates.proofs.Ends.{tail-below, tail-comes, adding-terms, Comes}
 

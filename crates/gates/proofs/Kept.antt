@@ -1,28 +1,21 @@
 -- Each step of the working keeps the value of the terms. Assumes nothing.
-use mathlib.Core.Path.{_≡_, refl, sym, ap, ap₂, subst, _∙_}
-use mathlib.Core.Bool.{Bool, true, false, _||_, _&&_, not, cond, xor}
-use mathlib.Core.Logic.{_⊎_, inl, inr, ⊎-elim}
+use mathlib.Core.Path.{_≡_, refl, sym, ap, ap₂, _∙_}
+use mathlib.Core.Bool.{Bool, true, false, _||_, _&&_, not, cond}
 use mathlib.Core.List.{List, [], _∷_}
-use Prim.Native.Nat.{ℕ, zero, suc, _+_, _-_, _*_, _^_, _<_, _≤_}
-use native.Mathlib.Omega.{arith}
-use lib.Bits.{bitXor, xor-zero-l, xor-zero-r, xor-self, xor-comm, xor-assoc}
-use lib.Dec.{eqb, ltb}
-use lib.ListN.{length, getD}
-use Rattle.std.proofs.shelf.Tests.{cases-bool, eqb-true, eqb-false, cond-both, cond-true, cond-false, true≢false, ltb-true, ltb-false}
-use Rattle.terms.specs.Kind.{KindModel, KindLaws}
-use Rattle.terms.specs.Terms.{term, added, value, Codes, Monos, Falling, Under, Nonzero}
+use Prim.Native.Nat.{ℕ, _-_, _<_}
+use lib.Bits.{bitXor, xor-zero-l, xor-comm, xor-assoc}
+use lib.Dec.{eqb}
+use Rattle.terms.specs.Terms.{term, added, value, Codes}
 use Rattle.terms.specs.Nets.{net-model}
 use Rattle.terms.specs.declared.Term.{Term}
 use Rattle.terms.specs.declared.nets.NetSet.{NetSet}
-use Rattle.terms.proofs.Laws.{value-added, added-monos, added-falling, added-nonzero, added-under}
+use Rattle.terms.proofs.Laws.{value-added}
 use Rattle.terms.proofs.BothKinds.{net-laws}
-use Rattle.netlist.specs.declared.gate.Gate.{Gate}
-use Rattle.netlist.specs.declared.gate.Gate.the-variants.{Zero}
-use Rattle.netlist.specs.Circuits.{Circuit, Below}
+use Rattle.netlist.specs.Circuits.{Below}
 use Rattle.netlist.specs.Meaning.{tail, parity}
 use Rattle.netlist.specs.Meaning.{all-on}
-use Rattle.terms.specs.Sets.{holds, among, Own, SetOf, Top, Within}
-use Rattle.terms.specs.Additions.{Ended, done, full, adding}
+use Rattle.terms.specs.Sets.{holds, among}
+use Rattle.terms.specs.Additions.{done, adding}
 use Rattle.gates.specs.Reductions.{Put, TailTerms}
 use Rattle.terms.specs.Values.{every, set-on, value-at}
 use Rattle.terms.proofs.Additions.{done-same, adding-first}

@@ -1,20 +1,18 @@
 -- Whether all nets of a set have bit one, by its members. Assumes nothing.
-use mathlib.Core.Path.{_≡_, refl, sym, ap, ap₂, subst, _∙_}
+use mathlib.Core.Path.{_≡_, refl, ap, ap₂, _∙_}
 use mathlib.Core.Bool.{Bool, true, false, _||_, _&&_, not, cond, xor}
-use mathlib.Core.Logic.{_⊎_, inl, inr, ⊎-elim}
+use mathlib.Core.Logic.{_⊎_, ⊎-elim}
 use mathlib.Core.List.{List, [], _∷_}
 use Prim.Native.Nat.{ℕ, zero, suc, _<_, _≤_}
 use native.Mathlib.Omega.{arith}
 use native.Mathlib.Nat.{not-suc-le-zero}
 use lib.Bits.{bitXor, xor-zero-l, xor-zero-r, xor-self}
 use lib.Dec.{eqb}
-use Rattle.std.proofs.shelf.Tests.{cases-bool, eqb-true, eqb-false, eq-eqb, ne-eqb, cases-eq}
-use Rattle.terms.specs.declared.Term.{Term}
-use Rattle.terms.specs.declared.nets.NetSet.{NetSet}
+use Rattle.std.proofs.shelf.Tests.{eqb-true, eq-eqb, ne-eqb, cases-eq}
 use Rattle.netlist.specs.Circuits.{Below}
 use Rattle.netlist.specs.Meaning.{all-on}
-use Rattle.terms.specs.Sets.{holds, among}
-use Rattle.terms.specs.Values.{every, set-on, value-at}
+use Rattle.terms.specs.Sets.{among}
+use Rattle.terms.specs.Values.{every}
 
 -- ---- every
 every-true : (n : ℕ) → every n (λ _. true) ≡ true

@@ -1,24 +1,22 @@
 -- One end for each circuit and number of rows; and more rows change nothing. Assumes nothing.
 use mathlib.Core.Path.{_≡_, refl, sym, ap, ap₂, subst, _∙_}
-use mathlib.Core.Bool.{Bool, true, false, cond}
-use mathlib.Core.Logic.{_⊎_, inl, inr, ⊎-elim}
+use mathlib.Core.Bool.{true, false}
+use mathlib.Core.Logic.{_⊎_, ⊎-elim}
 use mathlib.Core.List.{List, [], _∷_}
-use Prim.Native.Nat.{ℕ, zero, suc, _+_, _-_, _^_, _<_, _≤_}
+use Prim.Native.Nat.{ℕ, suc, _-_, _<_, _≤_}
 use native.Mathlib.Omega.{arith}
-use lib.Dec.{eqb, ltb}
-use lib.ListN.{length, getD}
-use Rattle.std.proofs.shelf.Tests.{cases-bool, cases-order, cond-true, cond-false, le-ltb, ltb-false, true≢false}
-use Rattle.terms.specs.Kind.{KindModel}
-use Rattle.terms.specs.Terms.{term, added}
+use lib.ListN.{getD}
+use Rattle.std.proofs.shelf.Tests.{cases-order, true≢false}
+use Rattle.terms.specs.Terms.{term}
 use Rattle.terms.specs.Nets.{net-model}
 use Rattle.terms.specs.declared.Term.{Term}
 use Rattle.terms.specs.declared.nets.NetSet.{NetSet}
 use Rattle.netlist.specs.declared.gate.Gate.the-variants.{Zero}
 use Rattle.netlist.specs.Circuits.{Circuit, inputs}
 use Rattle.netlist.specs.Meaning.{tail}
-use Rattle.terms.specs.Sets.{holds, Own, Top, SetOf, Net-laws}
+use Rattle.terms.specs.Sets.{holds, Top, Net-laws}
 use Rattle.terms.specs.Additions.{Ended, done, full, adding}
-use Rattle.gates.specs.Reductions.{OutTerms, Put, TailTerms, Reduces, empty, bits, stops, step, Worked, goes}
+use Rattle.gates.specs.Reductions.{OutTerms, TailTerms, Reduces, empty, bits, stops, step, Worked, goes}
 use Rattle.gates.specs.Forms.{One-end, More-rows}
 use Rattle.terms.proofs.Additions.{done-same, full-done, adding-more}
 

@@ -1,9 +1,9 @@
 -- A circuit has one bit form: a form that is 0 at every input has no term, since at the nets of its least set it is that set's code. Assumes nothing.
-use mathlib.Core.Path.{_≡_, refl, sym, ap, ap₂, subst, _∙_}
+use mathlib.Core.Path.{_≡_, refl, sym, ap, _∙_}
 use mathlib.Core.Bool.{Bool, true, false, _||_, _&&_, not, cond}
 use mathlib.Core.Logic.{⊎-elim}
 use mathlib.Core.List.{List, [], _∷_, _++_}
-use Prim.Native.Nat.{ℕ, zero, suc, _+_, _<_, _≤_}
+use Prim.Native.Nat.{ℕ, zero, suc, _+_, _<_}
 use native.Mathlib.Nat.{not-suc-le-zero}
 use native.Mathlib.Omega.{arith}
 use lib.Bits.{bitXor, xor-zero-l, xor-zero-r, xor-self}
@@ -22,7 +22,6 @@ use Rattle.terms.proofs.BothKinds.{net-laws}
 use Rattle.terms.proofs.Members.{laws-of-sets}
 use Rattle.terms.proofs.Additions.{Terms-all, adding-keeps}
 use Rattle.netlist.specs.Circuits.{Circuit, inputs}
-use Rattle.netlist.specs.Meaning.{output}
 use Rattle.gates.specs.Forms.{Bit-form, Only-form}
 use Rattle.gates.proofs.Lit.{every-all, on-split}
 use Rattle.gates.proofs.Kept.{xor-turn, value-at-adding}

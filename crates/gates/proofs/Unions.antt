@@ -1,12 +1,11 @@
 -- Sets united with the nets of a tail. Assumes nothing.
 use mathlib.Core.Path.{_≡_, refl, ap, _∙_}
 use mathlib.Core.Bool.{Bool, true, false, _||_}
-use mathlib.Core.List.{List, [], _∷_}
+use mathlib.Core.List.{[], _∷_}
 use Prim.Native.Nat.{ℕ}
 use lib.Dec.{eqb}
-use Rattle.terms.specs.Kind.{KindModel}
 use Rattle.terms.specs.Nets.{net-model}
-use Rattle.terms.specs.Sets.{holds, Own, SetOf, among}
+use Rattle.terms.specs.Sets.{holds, Own, SetOf}
 use Rattle.terms.specs.declared.nets.NetSet.{NetSet}
 use Rattle.terms.proofs.BothKinds.{net-laws}
 use Rattle.terms.proofs.Members.{laws-of-sets}

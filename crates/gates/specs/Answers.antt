@@ -2,14 +2,14 @@
 use mathlib.Core.Path.{_≡_}
 use mathlib.Core.List.{List}
 use Prim.Native.Nat.{ℕ, _<_, _≤_}
-use lib.ListN.{length, take, replicate}
+use lib.ListN.{length, replicate}
 use Rattle.std.specs.declared.result.Result.{Result}
 use Rattle.std.specs.declared.result.Result.the-variants.{Ok, Err}
 use Rattle.fault.specs.declared.Fault.{Fault}
 use Rattle.fault.specs.declared.Fault.the-variants.{BitTableFull, TooManyBitTerms}
 use Rattle.terms.specs.Terms.{blank, padded}
 use Rattle.terms.specs.Nets.{net-model}
-use Rattle.terms.specs.Additions.{Ended, done, full}
+use Rattle.terms.specs.Additions.{done, full}
 use Rattle.terms.specs.declared.Term.{Term}
 use Rattle.terms.specs.declared.nets.NetSet.{NetSet}
 use Rattle.netlist.specs.Circuits.{Circuit}

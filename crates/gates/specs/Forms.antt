@@ -1,8 +1,8 @@
 -- What the working from gates to bits means. Assumes nothing.
 use mathlib.Core.Path.{_≡_}
-use mathlib.Core.Bool.{Bool, true, false}
-use mathlib.Core.List.{List, [], _∷_}
-use Prim.Native.Nat.{ℕ, _+_, _*_, _/_, _%_, _^_, _<_, _≤_}
+use mathlib.Core.Bool.{Bool, false}
+use mathlib.Core.List.{List}
+use Prim.Native.Nat.{ℕ, _/_, _%_, _^_, _<_, _≤_}
 use lib.ListN.{length, getD}
 use Rattle.terms.specs.Terms.{Falling, Nonzero, Codes, Monos}
 use Rattle.terms.specs.Nets.{net-model}
@@ -10,7 +10,7 @@ use Rattle.terms.specs.declared.Term.{Term}
 use Rattle.terms.specs.declared.nets.NetSet.{NetSet}
 use Rattle.netlist.specs.Circuits.{Circuit, WellFormed, inputs, nets}
 use Rattle.netlist.specs.Meaning.{bit, output, bit-of, output-at}
-use Rattle.terms.specs.Sets.{holds, Own, Within}
+use Rattle.terms.specs.Sets.{Own, Within}
 use Rattle.terms.specs.Additions.{Ended, done, full}
 use Rattle.gates.specs.Reductions.{Reduces, Worked}
 use Rattle.terms.specs.Values.{value-at}

@@ -1,11 +1,10 @@
 -- The sets that take the place of a gate's net. Assumes nothing.
 use mathlib.Core.Path.{_≡_}
-use mathlib.Core.Bool.{Bool, true, false, _||_}
+use mathlib.Core.Bool.{_||_}
 use mathlib.Core.List.{List, [], _∷_}
-use Prim.Native.Nat.{ℕ, _<_, _≤_}
+use Prim.Native.Nat.{ℕ}
 use Rattle.std.specs.declared.result.Result.{Result}
 use Rattle.std.specs.declared.result.Result.the-variants.{Ok, Err}
-use Rattle.terms.specs.Kind.{KindModel}
 use Rattle.terms.specs.Terms.{term}
 use Rattle.terms.specs.declared.Term.{Term}
 use Rattle.terms.specs.declared.table.Full.{Full}

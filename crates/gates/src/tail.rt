@@ -1,6 +1,6 @@
 // The tail of a gate: the sets whose sum, modulo 2, takes the place of the gate's net.
 ghost use mathlib.Core.Path.{_≡_};
-ghost use mathlib.Core.List.{List, [], _∷_};
+ghost use mathlib.Core.List.{[], _∷_};
 ghost use Prim.Native.Nat.{_≤_};
 ghost use lib.ListN.{length, take};
 ghost use Rattle.netlist.specs.Meaning.{tail};

@@ -1,6 +1,6 @@
 // The working from gates to bits, on a term table.
 ghost use mathlib.Core.Path.{_≡_};
-ghost use mathlib.Core.List.{List, [], _∷_};
+ghost use mathlib.Core.List.{List, []};
 ghost use lib.ListN.{take};
 ghost use denote.Ref.{name};
 ghost use Rattle.terms.specs.Nets.{net-model};

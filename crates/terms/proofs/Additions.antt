@@ -1,6 +1,5 @@
 -- Additions, one after the other. Assumes nothing.
-use mathlib.Core.Path.{_≡_, refl, sym, ap, ap₂, subst, _∙_}
-use mathlib.Core.Bool.{Bool, true, false, cond}
+use mathlib.Core.Path.{_≡_, sym, ap, ap₂, subst, _∙_}
 use mathlib.Core.Logic.{⊎-elim}
 use mathlib.Core.List.{List, [], _∷_}
 use Prim.Native.Nat.{ℕ, _<_, _≤_}
@@ -18,9 +17,6 @@ use Rattle.terms.specs.declared.table.TermTable.{TermTable}
 
 pub done-same : {M : Type 0} (a b : List (Term M)) → _≡_ {A = Ended M} (done a) (done b) → a ≡ b
 done-same a b q = cc
-
-pub full-same : {M : Type 0} (a b : List (Term M)) → _≡_ {A = Ended M} (full a) (full b) → a ≡ b
-full-same a b q = cc
 
 pub full-done : {M A : Type 0} (a b : List (Term M)) → _≡_ {A = Ended M} (full a) (done b) → A
 full-done a b q = absurd (let z : _≡_ {A = ℕ} 0 1 = cc in omega arith)

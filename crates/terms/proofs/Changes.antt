@@ -1,21 +1,21 @@
 -- The set of one net, a net taken out of a set, and the greatest net of a set. Assumes nothing.
 use mathlib.Core.Path.{_≡_, refl, sym, ap, ap₂, subst, _∙_}
 use mathlib.Core.Bool.{Bool, true, false, _||_, _&&_, not, cond}
-use mathlib.Core.Logic.{_⊎_, inl, inr, ⊎-elim}
+use mathlib.Core.Logic.{_⊎_, ⊎-elim}
 use mathlib.Core.List.{List, [], _∷_}
 use Prim.Native.Nat.{ℕ, zero, suc, _+_, _-_, _*_, _/_, _%_, _^_, _<_, _≤_}
-use native.Mathlib.Nat.{mod-lt, mod-eq-of-lt, div-eq-of-lt, div-eq-of-lt-le, div-self, div-add-mod', mul-div-cancel, zero-div, one-mul}
+use native.Mathlib.Nat.{mod-lt, mod-eq-of-lt, div-eq-of-lt, div-eq-of-lt-le, div-self, div-add-mod', mul-div-cancel, zero-div}
 use native.Mathlib.Omega.{arith}
-use lib.Bits.{bitAnd, bitXor, and-shr, and-mod, and-comm, and-lt, xor-shr, xor-mod, xor-lt, xor-add-and, and-mask}
+use lib.Bits.{bitAnd, bitXor, and-shr, and-mod, and-comm, and-lt, xor-shr, xor-mod, xor-add-and, and-mask}
 use lib.Dec.{leb, eqb}
 use lib.Pow.{pow-pos, pow-add, pow-lt, pow-mono}
 use lib.ListN.{length, getD, set, replicate}
 use Rattle.std.proofs.shelf.Lists.{getD-set-same, getD-set-other, length-set}
 use Rattle.std.proofs.shelf.Bits.{div-below, one-shl, div-mul-add, mod-mul-add}
-use Rattle.std.proofs.shelf.Tests.{cases-bool, cases-order, cases-eq, cases-lt, true≢false, eqb-true, eqb-false, eq-eqb, ne-eqb, and-from, le-leb}
+use Rattle.std.proofs.shelf.Tests.{cases-order, cases-eq, eq-eqb, ne-eqb, and-from, le-leb}
 use Rattle.terms.specs.Numbers.{inside}
 use Rattle.terms.specs.Nets.{full-words}
-use Rattle.terms.specs.Sets.{holds, Own, SetOf, Without, Top, among}
+use Rattle.terms.specs.Sets.{holds, Own, SetOf, Without, Top}
 use Rattle.terms.specs.declared.nets.NetSet.{NetSet}
 use Rattle.terms.proofs.BothKinds.{net-set, inside-length}
 use Rattle.terms.proofs.Members.{Words, own-words}

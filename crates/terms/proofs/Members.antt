@@ -1,22 +1,21 @@
 -- Net sets by their members. Assumes nothing.
-use mathlib.Core.Path.{_≡_, refl, sym, ap, ap₂, subst, _∙_}
-use mathlib.Core.Bool.{Bool, true, false, _||_}
-use mathlib.Core.Logic.{_⊎_, inl, inr, ⊎-elim}
+use mathlib.Core.Path.{_≡_, refl, sym, ap, ap₂, _∙_}
+use mathlib.Core.Bool.{true, false, _||_}
+use mathlib.Core.Logic.{_⊎_, ⊎-elim}
 use mathlib.Core.List.{List, [], _∷_, reverse}
-use Prim.Native.Nat.{ℕ, zero, suc, _+_, _-_, _*_, _/_, _%_, _^_, _<_, _≤_, zero-le, suc-le-suc}
-use native.Mathlib.Nat.{not-suc-le-zero, mod-lt, mod-eq-of-lt, div-eq-of-lt, zero-div, div-one, div-add-mod', add-mul-div-left, add-mul-div-right, add-mul-mod-self-right, add-div-left, add-mod-left, mul-assoc, mul-comm, zero-add}
+use Prim.Native.Nat.{ℕ, zero, suc, _+_, _-_, _*_, _/_, _%_, _^_, _<_, _≤_}
+use native.Mathlib.Nat.{mod-lt, mod-eq-of-lt, div-eq-of-lt, zero-div, div-one, div-add-mod', add-mul-div-left, add-mul-div-right, add-mul-mod-self-right, add-div-left, add-mod-left, mul-assoc, mul-comm, zero-add}
 use native.Mathlib.Omega.{arith}
 use lib.Bits.{bitOr, or-shr, or-mod}
 use lib.Dec.{leb, eqb}
-use lib.Pow.{pow-pos, pow-add, pow-mono, shr-shr, shr-le}
-use lib.ListN.{length, getD, take, replicate}
-use Rattle.std.proofs.shelf.Tests.{cases-bool, cases-order, cases-lt, true≢false, false≢true, eqb-true, eqb-false, eq-eqb, ne-eqb, and-parts, leb-true}
-use Rattle.terms.specs.Kind.{KindModel, KindLaws}
+use lib.Pow.{pow-pos, pow-add, pow-mono, shr-shr}
+use lib.ListN.{length, getD, replicate}
+use Rattle.std.proofs.shelf.Tests.{cases-bool, cases-order, cases-lt, true≢false, false≢true, eqb-true, eqb-false, and-parts, leb-true}
 use Rattle.terms.specs.Numbers.{lex, inside, paired}
 use Rattle.terms.specs.Nets.{net-model, full-words}
 use Rattle.terms.specs.declared.nets.NetSet.{NetSet}
-use Rattle.terms.proofs.Laws.{Stands, lower, higher, level, stands}
-use Rattle.terms.proofs.Numbers.{lex-lower, lex-higher, lex-level}
+use Rattle.terms.proofs.Laws.{lower, higher, level, stands}
+use Rattle.terms.proofs.Numbers.{lex-higher, lex-level}
 use Rattle.terms.proofs.BothKinds.{net-laws, as-four, inside-at, inside-length}
 use Rattle.terms.specs.Sets.{holds, Own, Greatest, Net-laws}
 

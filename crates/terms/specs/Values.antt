@@ -1,7 +1,6 @@
 -- The value of terms of net sets where each net has a bit: a sum of codes over square-free monomials. Assumes nothing.
-use mathlib.Core.Path.{_≡_}
-use mathlib.Core.Bool.{Bool, true, false, _||_, _&&_, not, cond}
-use mathlib.Core.List.{List, [], _∷_}
+use mathlib.Core.Bool.{Bool, true, _||_, _&&_, not, cond}
+use mathlib.Core.List.{List}
 use Prim.Native.Nat.{ℕ, zero, suc}
 use Rattle.terms.specs.Terms.{value}
 use Rattle.terms.specs.Sets.{holds}

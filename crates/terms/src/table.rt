@@ -1,14 +1,12 @@
 // The term table: terms in falling order of their monomials, on rows that the caller lends.
 ghost use mathlib.Core.Path.{_≡_};
-ghost use mathlib.Core.List.{List, [], _∷_, _++_};
-ghost use mathlib.Core.Bool.{Bool, true, false};
-ghost use Prim.Native.Nat.{ℕ, _+_, _-_, _<_, _≤_};
-ghost use lib.ListN.{length, take, drop, getD, replicate};
+ghost use mathlib.Core.List.{[], _∷_, _++_};
+ghost use Prim.Native.Nat.{_+_, _-_, _<_, _≤_};
+ghost use lib.ListN.{length, take, drop, replicate};
 ghost use denote.Ref.{name};
 ghost use Rattle.std.specs.shelf.Lists.{between};
 ghost use Rattle.std.specs.declared.result.Result.the-variants.{Ok, Err};
 ghost use Rattle.std.specs.declared.option.Option.the-variants.{Some, None};
-ghost use Rattle.terms.specs.Kind.{KindModel, KindLaws};
 ghost use Rattle.terms.specs.Terms.{Falling, place, Table, Added, Refused, TookFirst, blank};
 ghost use Rattle.terms.specs.Lent.{live, capacity, Sound, Leads, Sum, NoRoom, Off};
 ghost use Rattle.terms.specs.Theorems.{Adds-value, Adds-coeff, Only-one};

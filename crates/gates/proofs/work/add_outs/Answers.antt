@@ -1,6 +1,6 @@
 use mathlib.Core.Path.{_≡_, sym, ap, subst, subst₂, _∙_}
 use mathlib.Core.List.{[], _∷_}
-use Prim.Native.Nat.{_<_, _≤_, _+_, _*_, _%_, _^_}
+use Prim.Native.Nat.{_<_, _+_, _*_, _%_, _^_}
 use native.Mathlib.Omega.{arith}
 use lib.ListN.{length, drop, getD}
 use Rattle.std.proofs.shelf.Lists.{drop-all}

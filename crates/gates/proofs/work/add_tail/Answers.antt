@@ -1,6 +1,6 @@
-use mathlib.Core.Path.{_≡_, sym, ap, subst, subst₂, _∙_}
+use mathlib.Core.Path.{_≡_, sym, ap, subst₂, _∙_}
 use mathlib.Core.List.{[], _∷_}
-use Prim.Native.Nat.{_<_, _≤_, _+_}
+use Prim.Native.Nat.{_+_}
 use native.Mathlib.Omega.{arith}
 use lib.ListN.{length, take, drop, getD}
 use Rattle.std.proofs.shelf.Lists.{at-drop-more, at-drop-all, length-take-le, getD-take}
@@ -9,7 +9,7 @@ use Rattle.terms.specs.Lent.{live, capacity}
 use Rattle.terms.specs.Terms.{term, Table}
 use Rattle.terms.specs.Nets.{net-model}
 use Rattle.terms.specs.declared.nets.NetSet.{NetSet}
-use Rattle.terms.specs.Additions.{Ended, done, full, adding}
+use Rattle.terms.specs.Additions.{adding}
 use Rattle.gates.specs.Tails.{each}
 use Rattle.terms.proofs.Additions.{table-on, table-full}
 use Rattle.gates.proofs.work.add_tail.Needs as need

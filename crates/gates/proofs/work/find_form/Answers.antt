@@ -1,8 +1,8 @@
-use mathlib.Core.Path.{_≡_, sym, ap, ap₂, subst, _∙_}
+use mathlib.Core.Path.{_≡_, sym, ap, ap₂, _∙_}
 use mathlib.Core.List.{_++_}
 use Prim.Native.Nat.{_<_, _≤_, _-_}
 use native.Mathlib.Omega.{arith}
-use lib.ListN.{length, take, drop, replicate}
+use lib.ListN.{length, replicate}
 use Rattle.std.proofs.shelf.Lists.{length-take-le, take-append-drop}
 use Rattle.terms.specs.Terms.{blank, padded}
 use Rattle.terms.specs.Lent.{live, capacity}

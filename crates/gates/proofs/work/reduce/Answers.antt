@@ -1,9 +1,9 @@
-use mathlib.Core.Path.{_≡_, sym, ap, subst, subst₂, _∙_}
-use mathlib.Core.List.{[], _∷_}
+use mathlib.Core.Path.{_≡_, subst, _∙_}
+use mathlib.Core.List.{[]}
 use Rattle.std.proofs.shelf.Results.{err-from-errBy}
 use Rattle.terms.specs.Lent.{live, capacity}
 use Rattle.terms.specs.Nets.{net-model}
-use Rattle.terms.specs.Additions.{Ended, done, full, adding}
+use Rattle.terms.specs.Additions.{done, full, adding}
 use Rattle.netlist.specs.Netlists.{circuit}
 use Rattle.netlist.proofs.Formed.{formed}
 use Rattle.gates.specs.Reductions.{Reduces}

@@ -1,27 +1,21 @@
-use mathlib.Core.Path.{_≡_, refl, sym, ap, subst, _∙_}
-use mathlib.Core.Bool.{true, false}
-use mathlib.Core.List.{List, _∷_}
+use mathlib.Core.Path.{_≡_, sym, subst, _∙_}
+use mathlib.Core.List.{_∷_}
 use mathlib.Core.Logic.{⊎-elim}
-use Prim.Native.Nat.{ℕ, _<_, _≤_, _+_, _-_, _*_}
+use Prim.Native.Nat.{_<_, _≤_, _-_}
 use native.Mathlib.Omega.{arith}
-use lib.ListN.{length, take, getD}
-use borrow.Author.Needs.{needs}
+use lib.ListN.{take, getD}
 use Rattle.std.proofs.shelf.Results.{err-from-errBy}
 use Rattle.std.proofs.shelf.Tests.{cases-lt}
 use Rattle.terms.specs.Lent.{live, capacity}
 use Rattle.terms.specs.Nets.{net-model}
-use Rattle.terms.specs.Sets.{holds}
-use Rattle.terms.specs.Additions.{Ended, done, full, adding}
-use Rattle.terms.specs.declared.Term.{Term}
-use Rattle.terms.specs.declared.nets.NetSet.{NetSet}
+use Rattle.terms.specs.Additions.{done, full, adding}
 use Rattle.terms.proofs.Members.{never}
-use Rattle.netlist.specs.declared.gate.Gate.{Gate}
 use Rattle.netlist.specs.declared.gate.Gate.the-variants.{Zero}
 use Rattle.netlist.specs.Circuits.{inputs, nets}
 use Rattle.netlist.specs.Netlists.{circuit}
 use Rattle.netlist.specs.Meaning.{tail}
 use Rattle.netlist.proofs.Formed.{formed}
-use Rattle.gates.specs.Reductions.{Reduces, TailTerms}
+use Rattle.gates.specs.Reductions.{TailTerms}
 use Rattle.gates.specs.Tails.{each, Joins}
 use Rattle.gates.specs.Forms.{Terms-of}
 use Rattle.gates.proofs.Falls.{led, ends-bits, ends-empty, joins-tail, turn-terms, turn-falls, turn-on, turn-stops}
