@@ -1,3 +1,4 @@
 mod Joining
 mod Opening
 mod Threes
+mod Working

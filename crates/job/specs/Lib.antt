@@ -1,3 +1,5 @@
 pub mod Jobs
 pub mod Printing
 pub mod Cards
+pub mod Answers
+pub mod Printed
