@@ -52,6 +52,7 @@ fn work(job: &[u8]) -> Result<Card, Fault>
 }
 
 // What the program answers to a job.
+#[derive(Clone, Copy)]
 pub enum Outcome {
     Card(Card),
     Refused(Fault),
