@@ -42,6 +42,16 @@ abbrev pub Stopped : {M : Type 0} → Ended M → Type 0
 Stopped (done us) = ⊥
 Stopped (full us) = Unit {0}
 
+-- what a call answers whose additions end so: done with the terms ts, or full with the terms us
+abbrev pub Reached : {M T E : Type 0} → Ended M → List (Term M) → List (Term M) → Result T E → Type 0
+Reached end ts us (Ok x) = end ≡ done ts
+Reached end ts us (Err x) = end ≡ full us
+
+-- the same where the terms of a full table do not matter
+abbrev pub Expanded : {M T E : Type 0} → Ended M → List (Term M) → Result T E → Type 0
+Expanded end ts (Ok x) = end ≡ done ts
+Expanded end ts (Err x) = Stopped end
+
 -- the first product table, after it was multiplied by each factor in turn
 abbrev pub multiplying : {M : Type 0} → KindModel M → (ℕ → ℕ → ℕ) → ℕ → List (List (Term M)) → List (Term M) → Ended M
 multiplying k mul cap [] ts = done ts
@@ -56,6 +66,12 @@ pub data Converted (M : Type 0) : Type 0 where
   finished : List (Term M) → Converted M
   stopped : FullTable → Converted M
 
+-- what a call answers for it: finished with the terms ts, or which table was full
+abbrev pub Worked : {M T : Type 0} → Converted M → List (Term M) → Result T FullTable → Type 0
+Worked end ts (Ok x) = end ≡ finished ts
+Worked end ts (Err e) = end ≡ stopped e
+
+-- what was added to the result, and then the rest of the working
 abbrev pub noted : {M : Type 0} → Ended M → (List (Term M) → Converted M) → Converted M
 noted (done rs) go = go rs
 noted (full rs) go = stopped Outcome

@@ -12,9 +12,9 @@ ghost use Rattle.std.specs.declared.result.Result.the-variants.{Ok, Err};
 ghost use Rattle.algebra.specs.Field.{product};
 ghost use Rattle.terms.specs.Terms.{Monos, blank};
 ghost use Rattle.terms.specs.Lent.{live, capacity, Sound};
-ghost use Rattle.terms.specs.Additions.{Ended, done, full, adding};
+ghost use Rattle.terms.specs.Additions.{adding};
 ghost use Rattle.convert.specs.Products.{products, all-products};
-ghost use Rattle.convert.specs.Convert.{block, factors-of, Whole, multiplying, expanding, Stopped, converting, Converted, finished, stopped, Answered};
+ghost use Rattle.convert.specs.Convert.{block, factors-of, Whole, Reached, multiplying, expanding, Expanded, converting, Worked, Answered};
 use field::Field;
 use terms::Full;
 use terms::Kind;
@@ -22,7 +22,7 @@ use terms::Term;
 use terms::TermTable;
 use terms::clear_rows;
 
-// The table that was found full.
+// The table that was found full: one of the two for products, or the one for the outcome.
 #[derive(Clone, Copy)]
 pub enum FullTable {
     Product,
@@ -79,7 +79,7 @@ fn add_products<M: Copy, K: Kind<M>, F: Field>(
     ensures same { λ _. ⌜ name (now (out .exit) .rows) ≡ name (now (out .entry) .rows) ⌝ }
     ensures room { λ _. ⌜ capacity (now (out .exit)) ≡ capacity (now (out .entry)) ⌝ }
     ensures sound { λ _. ⌜ Sound (K·Kind .model (now (kind .entry))) (now (out .exit)) ⌝ }
-    ensures sum { λ r. ⌜ elim r [ Ok _ ↦ adding (K·Kind .model (now (kind .entry))) (capacity (now (out .entry))) (products (K·Kind .model (now (kind .entry))) (product (F·Field .model (now (field .entry)))) c m (now (factor .entry))) (live (now (out .entry))) ≡ done (live (now (out .exit))) | Err _ ↦ adding (K·Kind .model (now (kind .entry))) (capacity (now (out .entry))) (products (K·Kind .model (now (kind .entry))) (product (F·Field .model (now (field .entry)))) c m (now (factor .entry))) (live (now (out .entry))) ≡ full (live (now (out .exit))) ] ⌝ }
+    ensures sum { λ r. ⌜ Reached (adding (K·Kind .model (now (kind .entry))) (capacity (now (out .entry))) (products (K·Kind .model (now (kind .entry))) (product (F·Field .model (now (field .entry)))) c m (now (factor .entry))) (live (now (out .entry)))) (live (now (out .exit))) (live (now (out .exit))) r ⌝ }
 {
     for i in 0..factor.len() {
         let u = factor[i];
@@ -112,7 +112,7 @@ fn multiply<M: Copy, K: Kind<M>, F: Field>(
     ensures same { λ _. ⌜ name (now (out .exit) .rows) ≡ name (now (out .entry) .rows) ⌝ }
     ensures room { λ _. ⌜ capacity (now (out .exit)) ≡ capacity (now (out .entry)) ⌝ }
     ensures sound { λ _. ⌜ Sound (K·Kind .model (now (kind .entry))) (now (out .exit)) ⌝ }
-    ensures sum { λ r. ⌜ elim r [ Ok _ ↦ adding (K·Kind .model (now (kind .entry))) (capacity (now (out .entry))) (all-products (K·Kind .model (now (kind .entry))) (product (F·Field .model (now (field .entry)))) (live (now (first .entry))) (now (factor .entry))) (live (now (out .entry))) ≡ done (live (now (out .exit))) | Err _ ↦ adding (K·Kind .model (now (kind .entry))) (capacity (now (out .entry))) (all-products (K·Kind .model (now (kind .entry))) (product (F·Field .model (now (field .entry)))) (live (now (first .entry))) (now (factor .entry))) (live (now (out .entry))) ≡ full (live (now (out .exit))) ] ⌝ }
+    ensures sum { λ r. ⌜ Reached (adding (K·Kind .model (now (kind .entry))) (capacity (now (out .entry))) (all-products (K·Kind .model (now (kind .entry))) (product (F·Field .model (now (field .entry)))) (live (now (first .entry))) (now (factor .entry))) (live (now (out .entry)))) (live (now (out .exit))) (live (now (out .exit))) r ⌝ }
 {
     for i in 0..first.len() {
         let t = term_at(first, i);
@@ -132,7 +132,7 @@ fn add_all<M: Copy, K: Kind<M>>(
     ensures same { λ _. ⌜ name (now (out .exit) .rows) ≡ name (now (out .entry) .rows) ⌝ }
     ensures room { λ _. ⌜ capacity (now (out .exit)) ≡ capacity (now (out .entry)) ⌝ }
     ensures sound { λ _. ⌜ Sound (K·Kind .model (now (kind .entry))) (now (out .exit)) ⌝ }
-    ensures sum { λ r. ⌜ elim r [ Ok _ ↦ adding (K·Kind .model (now (kind .entry))) (capacity (now (out .entry))) (live (now (first .entry))) (live (now (out .entry))) ≡ done (live (now (out .exit))) | Err _ ↦ adding (K·Kind .model (now (kind .entry))) (capacity (now (out .entry))) (live (now (first .entry))) (live (now (out .entry))) ≡ full (live (now (out .exit))) ] ⌝ }
+    ensures sum { λ r. ⌜ Reached (adding (K·Kind .model (now (kind .entry))) (capacity (now (out .entry))) (live (now (first .entry))) (live (now (out .entry)))) (live (now (out .exit))) (live (now (out .exit))) r ⌝ }
 {
     for i in 0..first.len() {
         let t = term_at(first, i);
@@ -160,7 +160,8 @@ fn multiply_by<M: Copy, K: Kind<M>, F: Field>(
     ensures same2 { λ _. ⌜ name (now (second .exit) .rows) ≡ name (now (second .entry) .rows) ⌝ }
     ensures room2 { λ _. ⌜ capacity (now (second .exit)) ≡ capacity (now (second .entry)) ⌝ }
     ensures sound2 { λ _. ⌜ Sound (K·Kind .model (now (kind .entry))) (now (second .exit)) ⌝ }
-    ensures worked { λ r. ⌜ elim r [ Ok _ ↦ (adding (K·Kind .model (now (kind .entry))) (capacity (now (first .entry))) (all-products (K·Kind .model (now (kind .entry))) (product (F·Field .model (now (field .entry)))) (live (now (first .entry))) (now (factor .entry))) [] ≡ done (live (now (first .exit)))) × Monos (λ m. K·Kind .model (now (kind .entry)) .own m ≡ true) (live (now (first .exit))) | Err _ ↦ adding (K·Kind .model (now (kind .entry))) (capacity (now (first .entry))) (all-products (K·Kind .model (now (kind .entry))) (product (F·Field .model (now (field .entry)))) (live (now (first .entry))) (now (factor .entry))) [] ≡ full (live (now (second .exit))) ] ⌝ }
+    ensures worked { λ r. ⌜ Reached (adding (K·Kind .model (now (kind .entry))) (capacity (now (first .entry))) (all-products (K·Kind .model (now (kind .entry))) (product (F·Field .model (now (field .entry)))) (live (now (first .entry))) (now (factor .entry))) []) (live (now (first .exit))) (live (now (second .exit))) r ⌝ }
+    ensures own { λ r. ⌜ elim r [ Ok _ ↦ Monos (λ m. K·Kind .model (now (kind .entry)) .own m ≡ true) (live (now (first .exit))) | Err _ ↦ Unit {0} ] ⌝ }
 {
     second.clear(kind);
     multiply(kind, field, first, factor, second)?;
@@ -190,7 +191,7 @@ fn multiply_out<S: Copy, M: Copy, K: Kind<M>, F: Field, H: Holds<S>>(
     ensures same2 { λ _. ⌜ name (now (second .exit) .rows) ≡ name (now (second .entry) .rows) ⌝ }
     ensures room2 { λ _. ⌜ capacity (now (second .exit)) ≡ capacity (now (second .entry)) ⌝ }
     ensures sound2 { λ _. ⌜ Sound (K·Kind .model (now (kind .entry))) (now (second .exit)) ⌝ }
-    ensures worked { λ r. ⌜ elim r [ Ok _ ↦ multiplying (K·Kind .model (now (kind .entry))) (product (F·Field .model (now (field .entry)))) (capacity (now (first .entry))) (factors-of (now (factors .entry)) (H·Holds .held (now (source .entry)) s)) (live (now (first .entry))) ≡ done (live (now (first .exit))) | Err _ ↦ multiplying (K·Kind .model (now (kind .entry))) (product (F·Field .model (now (field .entry)))) (capacity (now (first .entry))) (factors-of (now (factors .entry)) (H·Holds .held (now (source .entry)) s)) (live (now (first .entry))) ≡ full (live (now (second .exit))) ] ⌝ }
+    ensures worked { λ r. ⌜ Reached (multiplying (K·Kind .model (now (kind .entry))) (product (F·Field .model (now (field .entry)))) (capacity (now (first .entry))) (factors-of (now (factors .entry)) (H·Holds .held (now (source .entry)) s)) (live (now (first .entry)))) (live (now (first .exit))) (live (now (second .exit))) r ⌝ }
 {
     for p in 0..factors.places {
         if source.holds(s, p) {
@@ -221,7 +222,7 @@ fn expand<S: Copy, M: Copy, K: Kind<M>, F: Field, H: Holds<S>>(
     ensures same2 { λ _. ⌜ name (now (second .exit) .rows) ≡ name (now (second .entry) .rows) ⌝ }
     ensures room2 { λ _. ⌜ capacity (now (second .exit)) ≡ capacity (now (second .entry)) ⌝ }
     ensures sound2 { λ _. ⌜ Sound (K·Kind .model (now (kind .entry))) (now (second .exit)) ⌝ }
-    ensures worked { λ r. ⌜ elim r [ Ok _ ↦ expanding (K·Kind .model (now (kind .entry))) (product (F·Field .model (now (field .entry)))) (capacity (now (first .entry))) c (factors-of (now (factors .entry)) (H·Holds .held (now (source .entry)) s)) ≡ done (live (now (first .exit))) | Err _ ↦ Stopped (expanding (K·Kind .model (now (kind .entry))) (product (F·Field .model (now (field .entry)))) (capacity (now (first .entry))) c (factors-of (now (factors .entry)) (H·Holds .held (now (source .entry)) s))) ] ⌝ }
+    ensures worked { λ r. ⌜ Expanded (expanding (K·Kind .model (now (kind .entry))) (product (F·Field .model (now (field .entry)))) (capacity (now (first .entry))) c (factors-of (now (factors .entry)) (H·Holds .held (now (source .entry)) s))) (live (now (first .exit))) r ⌝ }
 {
     first.clear(kind);
     first.add(kind, c, kind.unit())?;
@@ -255,7 +256,7 @@ fn work<S: Copy, M: Copy, K: Kind<M>, F: Field, H: Holds<S>>(
     ensures same3 { λ _. ⌜ name (now (result .exit) .rows) ≡ name (now (result .entry) .rows) ⌝ }
     ensures room3 { λ _. ⌜ capacity (now (result .exit)) ≡ capacity (now (result .entry)) ⌝ }
     ensures sound3 { λ _. ⌜ Sound (K·Kind .model (now (kind .entry))) (now (result .exit)) ⌝ }
-    ensures worked { λ r. ⌜ elim r [ Ok _ ↦ converting (K·Kind .model (now (kind .entry))) (product (F·Field .model (now (field .entry)))) (capacity (now (first .entry))) (capacity (now (result .entry))) (λ s. factors-of (now (factors .entry)) (H·Holds .held (now (source .entry)) s)) (now (terms .entry)) (live (now (result .entry))) ≡ finished (live (now (result .exit))) | Err e ↦ converting (K·Kind .model (now (kind .entry))) (product (F·Field .model (now (field .entry)))) (capacity (now (first .entry))) (capacity (now (result .entry))) (λ s. factors-of (now (factors .entry)) (H·Holds .held (now (source .entry)) s)) (now (terms .entry)) (live (now (result .entry))) ≡ stopped e ] ⌝ }
+    ensures worked { λ r. ⌜ Worked (converting (K·Kind .model (now (kind .entry))) (product (F·Field .model (now (field .entry)))) (capacity (now (first .entry))) (capacity (now (result .entry))) (λ s. factors-of (now (factors .entry)) (H·Holds .held (now (source .entry)) s)) (now (terms .entry)) (live (now (result .entry)))) (live (now (result .exit))) r ⌝ }
 {
     for i in 0..terms.len() {
         let t = terms[i];

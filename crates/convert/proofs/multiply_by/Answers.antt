@@ -40,6 +40,7 @@ returns-in-Break-multiply g c =
       sound2 = s .sound;
       worked = restart k mul (capacity (c .args .first .now)) (capacity z) (live (c .args .first .now)) (c .args .factor .now) (live z) (full (live (c .multiply .last .out)))
           (zr ∙ c .pre .rooms) (ap (λ i. take i (z .rows .now)) (c .clear .ensures .len)) (s .sum);
+      own = tt;
     })
 
 pub returns-in-Break-copy-from : need.returns-in-Break-copy-from
@@ -74,5 +75,6 @@ returns g c =
       room2 = s .room ∙ zr;
       sound1 = cp .copied .1;
       sound2 = s .sound;
-      worked = (q ∙ ap done (sym (cp .copied .0)), subst (Monos P) (sym (cp .copied .0)) own);
+      worked = q ∙ ap done (sym (cp .copied .0));
+      own = subst (Monos P) (sym (cp .copied .0)) own;
     }

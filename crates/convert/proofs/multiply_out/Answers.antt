@@ -69,7 +69,7 @@ loop-p-again g c =
       | then-holds·in-Continue-multiply-by w ↦
           let s = w .in-Continue-multiply-by .ensures tt in
           let a = w .multiply-by .last .first in
-          let e = subst₂ (λ x y. adding k x (all-products k mul (live (c .loop-p .first)) y) [] ≡ done (live a)) (c .loop-p .inv .4) (w .at .ensures) (s .worked .0) in
+          let e = subst₂ (λ x y. adding k x (all-products k mul (live (c .loop-p .first)) y) [] ≡ done (live a)) (c .loop-p .inv .4) (w .at .ensures) (s .worked) in
           subst₂ P (sym (w .first-is)) (sym (w .second-is)) (
             s .sound1,
             s .sound2,
@@ -77,7 +77,7 @@ loop-p-again g c =
             s .same2 ∙ c .loop-p .inv .3,
             s .room1 ∙ c .loop-p .inv .4,
             s .room2 ∙ c .loop-p .inv .5,
-            s .worked .1,
+            s .own,
             sym (ap (λ fs. multiplying k mul cap fs (live (c .loop-p .first))) (chosen-held held f i n (c .loop-p-test .taken) (sym (w .if-holds .ensures tt)))
                 ∙ factor-more k mul cap (f i) (chosen held f (i + 1) (n - (i + 1))) (live (c .loop-p .first)) (live a) e) ∙ c .loop-p .inv .7,
           )
