@@ -262,7 +262,7 @@ module _ (m : FieldData) (l : FieldLaws m) (n : ℕ) (few : n ≤ 3) (d : ℕ �
   factors-own : (s : NetSet) → A.All (Monos Own) (bit-factors m n d s)
   factors-own s =
       chosen-all (Monos Own) (holds s) (λ p. bit-sum m (p / m .width) (d (p % m .width)) (m .width)) (n * m .width)
-        (λ p h. sum-own m n (p / m .width) (d (p % m .width)) (div-lt-iff-lt-mul wp .1 h) few (m .width) (omega arith)) 0 (n * m .width) (omega arith)
+      (λ p h. sum-own m n (p / m .width) (d (p % m .width)) (div-lt-iff-lt-mul wp .1 h) few (m .width) (omega arith)) 0 (n * m .width) (omega arith)
 
   -- q^n rows suffice
   pub enough : (cap rows : ℕ) → q ^ n ≤ cap → q ^ n ≤ rows → (bits : List (Term NetSet))
@@ -304,12 +304,12 @@ module _ (m : FieldData) (l : FieldLaws m) (n : ℕ) (few : n ≤ 3) (d : ℕ �
         let worked = converting-table (other k laws (rowMul q) same-product) (other-laws k laws (rowMul q) same-product) rowOrder lex-less C cap rows (bit-factors m n d) bits [] us e′ in
         let each = (λ (p : ℕ) (h : p < places). sum-is m l (p / m .width) (d (p % m .width)) (m .width) (duals (p % m .width) (mod-lt p wp) .code)) in
         let facts : Path (NetSet → List (List (A.Term ℕ (List ℕ)))) (λ s. plains (bit-factors m n d s)) (λ s. bitFactors C (m .width) d 3 (held s)) =
-              (λ i s. chosen-bits C (m .width) d (holds s) (λ p. bit-sum m (p / m .width) (d (p % m .width)) (m .width)) places each 0 places (omega arith) i) in
+        (λ i s. chosen-bits C (m .width) d (holds s) (λ p. bit-sum m (p / m .width) (d (p % m .width)) (m .width)) places each 0 places (omega arith) i) in
         let is : plain us ≡ cardOf (total m) rowOrder held d 3 (plain bits) =
-              worked ∙ ap (λ (f : NetSet → List (List (A.Term ℕ (List ℕ)))). tableConverted C codeXor Z rowOrder (rowMul q) (unitRow 3) f (plain bits) []) facts in
+        worked ∙ ap (λ (f : NetSet → List (List (A.Term ℕ (List ℕ)))). tableConverted C codeXor Z rowOrder (rowMul q) (unitRow 3) f (plain bits) []) facts in
         subst (IsCardOf (total m) held 3 (plain bits)) (sym is)
-          (card-worked (record { it = total m; laws = total-laws m l }) NetSet rowOrder held d 3 (λ i h. dual-total m l i (d i) (duals i h)) (plain bits)
-            (codes-within m held (λ s. bits-within (m .width) (holds s) wp 0 places (let u = places-few in omega arith)) bits codes))
+        (card-worked (record { it = total m; laws = total-laws m l }) NetSet rowOrder held d 3 (λ i h. dual-total m l i (d i) (duals i h)) (plain bits)
+        (codes-within m held (λ s. bits-within (m .width) (holds s) wp 0 places (let u = places-few in omega arith)) bits codes))
 
     us-codes : Codes (λ c. c < q) us
     us-codes = row-codes m us (made .rows)

@@ -28,8 +28,8 @@ module _ {M : Type 0} (k : KindModel M) (L : KindLaws k) (times : M → M → M)
     unit-times = λ a p. sym (same (k .unit) a (L .unit-own) p) ∙ L .unit-times a p;
     times-comm = λ a b p q. sym (same a b p q) ∙ L .times-comm a b p q ∙ same b a q p;
     times-assoc = λ a b c p q r.
-      ap (λ m. times m c) (sym (same a b p q)) ∙ sym (same (k .times a b) c (L .times-own a b p q) r) ∙ L .times-assoc a b c p q r
-      ∙ same a (k .times b c) p (L .times-own b c q r) ∙ ap (times a) (same b c q r);
+        ap (λ m. times m c) (sym (same a b p q)) ∙ sym (same (k .times a b) c (L .times-own a b p q) r) ∙ L .times-assoc a b c p q r
+        ∙ same a (k .times b c) p (L .times-own b c q r) ∙ ap (times a) (same b c q r);
     less-irrefl = L .less-irrefl;
     less-trans = L .less-trans;
     less-total = L .less-total;
@@ -77,7 +77,7 @@ module _ {M : Type 0} (k : KindModel M) (L : KindLaws k) (times : M → M → M)
     multiplying-alike [] ts a u = refl
     multiplying-alike (f ∷ fs) ts a u =
         go (adding k cap (all-products k mul ts f) []) (adding-keeps cap (all-products k mul ts f) [] (all-p k Own (L .times-own) mul ts f u (a .0)) tt)
-          (multiplying k mul cap fs) (multiplying other mul cap fs) (λ us h. multiplying-alike fs us (a .1) h)
+        (multiplying k mul cap fs) (multiplying other mul cap fs) (λ us h. multiplying-alike fs us (a .1) h)
         ∙ ap (λ y. then y (multiplying other mul cap fs)) (adding-alike cap (all-products k mul ts f) [] ∙ ap (λ z. adding other cap z []) (all-alike ts f u (a .0)))
 
     expanding-alike : (c : ℕ) (fs : List (List (Term M))) → A.All (Monos Own) fs → expanding k mul cap c fs ≡ expanding other mul cap c fs

@@ -89,10 +89,13 @@ module _ (m : FieldData) (l : FieldLaws m) where
     where
       off : eqb 0 (m .one) ≡ false
       off = ne-eqb 0 (m .one) (λ e. l .one-is-not-zero (sym e))
+
       on : eqb (m .one) (m .one) ≡ true
       on = eq-eqb (m .one) (m .one) refl
+
       at : ℕ → ℕ
       at x = cond (eqb x (m .one)) p 0
+
       go : (s ≡ 0) ⊎ (s ≡ m .one) → (t ≡ 0) ⊎ (t ≡ m .one) → cond (eqb (bitXor s t) (m .one)) p 0 ≡ bitXor (cond (eqb s (m .one)) p 0) (cond (eqb t (m .one)) p 0)
       go (inl e) (inl f) = rw (e, f, off) refl
       go (inl e) (inr f) = rw (e, f, xor-zero-l (m .one), on, off) (sym (xor-zero-l p))
@@ -102,8 +105,8 @@ module _ (m : FieldData) (l : FieldLaws m) where
   pub signature-adds : Additive (signature m)
   signature-adds a b ha hb =
       sum-same (m .width) _ _ (λ j k.
-        ap (λ t. cond (eqb t (m .one)) (2 ^ j) 0) (ap (trace m) (product-dist-r m l a b (2 ^ j)) ∙ trace-adds (product m a (2 ^ j)) (product m b (2 ^ j)) (product-below m l a (2 ^ j)) (product-below m l b (2 ^ j)))
-        ∙ place-adds (2 ^ j) (trace m (product m a (2 ^ j))) (trace m (product m b (2 ^ j))) (trace-values (product m a (2 ^ j)) (product-below m l a (2 ^ j))) (trace-values (product m b (2 ^ j)) (product-below m l b (2 ^ j))))
+      ap (λ t. cond (eqb t (m .one)) (2 ^ j) 0) (ap (trace m) (product-dist-r m l a b (2 ^ j)) ∙ trace-adds (product m a (2 ^ j)) (product m b (2 ^ j)) (product-below m l a (2 ^ j)) (product-below m l b (2 ^ j)))
+      ∙ place-adds (2 ^ j) (trace m (product m a (2 ^ j))) (trace m (product m b (2 ^ j))) (trace-values (product m a (2 ^ j)) (product-below m l a (2 ^ j))) (trace-values (product m b (2 ^ j)) (product-below m l b (2 ^ j))))
       ∙ sum-adds (m .width) (λ j. cond (told a j) (2 ^ j) 0) (λ j. cond (told b j) (2 ^ j) 0)
 
   pub signature-below : (d : ℕ) → signature m d < size m

@@ -4,14 +4,14 @@ ghost use Rattle.std.specs.Results.{Cases};
 ghost use Rattle.netlist.specs.Netlists.{circuit};
 ghost use Rattle.netlist.specs.Refusals.{Refused};
 ghost use Rattle.job.specs.Jobs.{FieldPolynomial, NoPolynomial, WordsGiven, Opened, NotOpened};
+use crate::parts::Job;
 use crate::parts::default_for;
 use crate::parts::sizes;
 use crate::parts::take_apart;
-use crate::parts::Job;
 use fault::Fault;
-use field::shift::make::ShiftField;
-use field::shift::Shift;
 use field::Field;
+use field::shift::Shift;
+use field::shift::make::ShiftField;
 use netlist::circuit::Netlist;
 use netlist::read::read;
 

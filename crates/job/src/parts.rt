@@ -9,9 +9,9 @@ ghost use Rattle.lines.specs.Text.{Line};
 ghost use Rattle.lines.specs.declared.Head.the-variants.{Words};
 ghost use Rattle.job.specs.Jobs.{Parts, BadJob, default-polynomial, NoDefault};
 use fault::Fault;
+use lines::Head;
 use lines::cut_line;
 use lines::cut_tail;
-use lines::Head;
 
 // The most bytes that a job has.
 pub const LIMIT: usize = 16384;
@@ -30,13 +30,19 @@ pub fn take_apart(job: &[u8]) -> Result<Job<'_>, Fault>
         return Err(Fault::JobTooLong);
     }
     let [b'f', b'i', b'e', b'l', b'd', tail @ ..] = job else {
-        return Ok(Job { polynomial: None, netlist: job });
+        return Ok(Job {
+            polynomial: None,
+            netlist: job,
+        });
     };
     let Some((row, netlist)) = cut_tail(tail, 1) else {
         return Err(Fault::WrongForm(1));
     };
     let polynomial = row.at[0];
-    Ok(Job { polynomial: Some(polynomial), netlist })
+    Ok(Job {
+        polynomial: Some(polynomial),
+        netlist,
+    })
 }
 
 // The numbers of words and of bits that the words line gives, if the netlist begins with one.

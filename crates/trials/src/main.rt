@@ -29,7 +29,8 @@ fn heading(line: &[u8]) -> Option<(&[u8], usize)> {
                 name = Some(&line[0..i]);
                 size = 0;
             }
-            b'0'..=b'9' => size = size.saturating_mul(10).saturating_add(usize::from(*b - b'0')),
+            b'0'..=b'9' => size = size.saturating_mul(10)
+                .saturating_add(usize::from(*b - b'0')),
             _ => {}
         }
     }

@@ -55,7 +55,11 @@ fn row_of(words: usize, code: u16, exponents: [u16; 3]) -> Row
     ensures code { λ r. ⌜ r .code ≡ code ⌝ }
     ensures exponents { λ r. ⌜ r .exponents ≡ exponents ⌝ }
 {
-    Row { words, code, exponents }
+    Row {
+        words,
+        code,
+        exponents,
+    }
 }
 
 impl Card {

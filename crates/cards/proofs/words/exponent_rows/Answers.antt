@@ -11,5 +11,5 @@ returns g c =
     let n = c .args .n in
     let row = λ (top : ℕ). cond (ltb 0 n) top 0 ∷ (cond (ltb 1 n) top 0 ∷ (cond (ltb 2 n) top 0 ∷ [])) in
     let tops : c .new .result .tops ≡ row (c .order-top .result - 1) =
-      c .new .ensures ∙ (λ i. c .largest .ensures i ∷ (c .largest-2 .ensures i ∷ (c .largest-3 .ensures i ∷ []))) in
+    c .new .ensures ∙ (λ i. c .largest .ensures i ∷ (c .largest-2 .ensures i ∷ (c .largest-3 .ensures i ∷ []))) in
     ap exp-model (tops ∙ ap (λ (q : ℕ). row (q - 1)) (c .order-top .ensures))

@@ -50,9 +50,10 @@ loop-d-again g c =
     let code : d < size m = omega (arith, c .order-d-end .ensures) in
     let is : i ≡ signature m d = c .combine .ensures ∙ by-bits m l (signature m) (signature-adds m l) (c .signatures-columns .result) (λ i h. c .signatures-columns .ensures i (omega (arith, l .wide))) d code in
     let most : size m ≤ 2 ^ 8 = pow-mono {i = m .width} {j = 8} (l .wide) in
-    let within : i < length (c .loop-d .codes) = omega (arith, is, signature-below m l d, most, c .loop-d .inv .0) in
-    (simp length-set (c .loop-d .inv .0),
+    let within : i < length (c .loop-d .codes) = omega (arith, is, signature-below m l d, most, c .loop-d .inv .0) in (
+      simp length-set (c .loop-d .inv .0),
       λ s. set-cases (λ v. v < size m) (c .loop-d .codes) i d s within (λ e. code) (c .loop-d .inv .1 s),
       below-more _ _
-      (λ k h. set-cases (λ v. signature m v ≡ signature m k) (c .loop-d .codes) i d (signature m k) within (λ e. sym is ∙ sym e) (c .loop-d .inv .2 k h))
-      (subst (λ s. signature m (getD (set (c .loop-d .codes) i d) s 0) ≡ signature m d) is (rw getD-set-same refl)))
+          (λ k h. set-cases (λ v. signature m v ≡ signature m k) (c .loop-d .codes) i d (signature m k) within (λ e. sym is ∙ sym e) (c .loop-d .inv .2 k h))
+          (subst (λ s. signature m (getD (set (c .loop-d .codes) i d) s 0) ≡ signature m d) is (rw getD-set-same refl)),
+    )

@@ -18,6 +18,6 @@ loop-i-again g c =
     let v = getD (c .args .columns .now) i 0 in
     let part = next-sum m l i (c .loop-i .sum) in
     rw add-one (elim (c .if-x-i-eq1 .came) [
-      then-x-i-eq1 w ↦ w .sum-is ∙ part v (λ i. cond (eqb (bitOf (c .args .x) i) 1) (getD (c .args .columns .now) i 0) 0) (c .loop-i .inv) (ap (λ b. cond b v 0) (sym (eq-eqb (bitOf (c .args .x) i) 1 (w .if-x-i-eq1 .taken))))
-    | else-x-i-eq1 w ↦ w .sum-is ∙ sym (xor-zero-r (c .loop-i .sum)) ∙ part 0 (λ i. cond (eqb (bitOf (c .args .x) i) 1) (getD (c .args .columns .now) i 0) 0) (c .loop-i .inv) (ap (λ b. cond b v 0) (sym (ne-eqb (bitOf (c .args .x) i) 1 (w .if-x-i-eq1 .left))))
+      | then-x-i-eq1 w ↦ w .sum-is ∙ part v (λ i. cond (eqb (bitOf (c .args .x) i) 1) (getD (c .args .columns .now) i 0) 0) (c .loop-i .inv) (ap (λ b. cond b v 0) (sym (eq-eqb (bitOf (c .args .x) i) 1 (w .if-x-i-eq1 .taken))))
+      | else-x-i-eq1 w ↦ w .sum-is ∙ sym (xor-zero-r (c .loop-i .sum)) ∙ part 0 (λ i. cond (eqb (bitOf (c .args .x) i) 1) (getD (c .args .columns .now) i 0) 0) (c .loop-i .inv) (ap (λ b. cond b v 0) (sym (ne-eqb (bitOf (c .args .x) i) 1 (w .if-x-i-eq1 .left))))
     ])

@@ -28,7 +28,7 @@ returns-in-Break-len c =
     let b = c .in-Continue-count .ensures tt in
     let a = subst (λ (n : ℕ). CardAnswered (shift-data (o .field .k) (o .field .p)) (word-count n) 512 512 (take (c .in-Continue-count .count - 0) (drop 0 (c .bit-form .last .rows))) (c .to-words .last .card) (Err (c .in-Break-len .field-0 .0))) (c .words-words .ensures) (c .in-Break-len .ensures tt .card) in
     rw (p .1) (subst (Refused (c .args .job .now)) (sym (p .2))
-      (stopped (c .args .job .now) (o .field .p) (o .field .k) (circuit (o .netlist)) (c .in-Continue-opened .ensures tt) _ (b .0) (b .1) (front (c .bit-form .last .rows) (b .0) (c .in-Continue-count .count) (b .3) (b .2)) _ _ a))
+    (stopped (c .args .job .now) (o .field .p) (o .field .k) (circuit (o .netlist)) (c .in-Continue-opened .ensures tt) _ (b .0) (b .1) (front (c .bit-form .last .rows) (b .0) (c .in-Continue-count .count) (b .3) (b .2)) _ _ a))
 
 pub returns : need.returns
 returns c =
@@ -37,4 +37,4 @@ returns c =
     let a = subst (λ (n : ℕ). CardAnswered (shift-data (o .field .k) (o .field .p)) (word-count n) 512 512 (take (c .in-Continue-count .count - 0) (drop 0 (c .bit-form .last .rows))) (c .to-words .last .card) (Ok (c .in-Continue-len .len))) (c .words-words .ensures) (c .in-Continue-len .ensures tt .card) in
     let m = made (c .args .job .now) (o .field .p) (o .field .k) (circuit (o .netlist)) (c .in-Continue-opened .ensures tt) _ (b .0) (b .1) (front (c .bit-form .last .rows) (b .0) (c .in-Continue-count .count) (b .3) (b .2)) _ _ a in
     subst (λ (n : ℕ). Carded (c .args .job .now) (c .modulus .result) (c .width .result) n (take (c .in-Continue-len .len) (c .to-words .last .card))) (sym (c .words-words .ensures))
-      (subst₂ (λ (p k : ℕ). Carded (c .args .job .now) p k (circuit (o .netlist) .words) (take (c .in-Continue-len .len) (c .to-words .last .card))) (sym (c .modulus .ensures)) (sym (c .width .ensures)) m)
+    (subst₂ (λ (p k : ℕ). Carded (c .args .job .now) p k (circuit (o .netlist) .words) (take (c .in-Continue-len .len) (c .to-words .last .card))) (sym (c .modulus .ensures)) (sym (c .width .ensures)) m)

@@ -20,12 +20,17 @@ returns-then-job-gt-LIMIT c = long (omega arith)
 pub returns-in-rest-cut-tail : need.returns-in-rest-cut-tail
 returns-in-rest-cut-tail c =
     let front : c .args .job .now ≡ codes "field" ++ take (length (c .args .job .now) - 5) (drop 5 (c .args .job .now)) =
-      front5 (c .args .job .now) 102 105 101 108 100 (omega (arith, ltb-true, ltb-false, eqb-true, eqb-apart)) (omega (arith, ltb-true, ltb-false, eqb-true, eqb-apart)) (omega (arith, ltb-true, ltb-false, eqb-true, eqb-apart)) (omega (arith, ltb-true, ltb-false, eqb-true, eqb-apart)) (omega (arith, ltb-true, ltb-false, eqb-true, eqb-apart)) (omega (arith, ltb-true, ltb-false, eqb-true, eqb-apart)) in
+    front5 (c .args .job .now) 102 105 101 108 100 (omega (arith, ltb-true, ltb-false, eqb-true, eqb-apart)) (omega (arith, ltb-true, ltb-false, eqb-true, eqb-apart)) (omega (arith, ltb-true, ltb-false, eqb-true, eqb-apart)) (omega (arith, ltb-true, ltb-false, eqb-true, eqb-apart)) (omega (arith, ltb-true, ltb-false, eqb-true, eqb-apart)) (omega (arith, ltb-true, ltb-false, eqb-true, eqb-apart)) in
     form (take (length (c .args .job .now) - 5) (drop 5 (c .args .job .now))) (omega arith) front (c .in-rest-cut-tail .ensures tt)
 
 pub returns : need.returns
 returns c =
     let front : c .args .job .now ≡ codes "field" ++ take (length (c .args .job .now) - 5) (drop 5 (c .args .job .now)) =
-      front5 (c .args .job .now) 102 105 101 108 100 (omega (arith, ltb-true, ltb-false, eqb-true, eqb-apart)) (omega (arith, ltb-true, ltb-false, eqb-true, eqb-apart)) (omega (arith, ltb-true, ltb-false, eqb-true, eqb-apart)) (omega (arith, ltb-true, ltb-false, eqb-true, eqb-apart)) (omega (arith, ltb-true, ltb-false, eqb-true, eqb-apart)) (omega (arith, ltb-true, ltb-false, eqb-true, eqb-apart)) in
-    (omega arith, (take (length (c .args .job .now) - 5) (drop 5 (c .args .job .now)), front,
-      subst (λ vs. Tail (take (length (c .args .job .now) - 5) (drop 5 (c .args .job .now))) 1 vs (c .in-Some .netlist .now)) (take-one (c .in-Some .row .at) (c .in-Some .ensures tt .0)) (c .in-Some .ensures tt .1)))
+    front5 (c .args .job .now) 102 105 101 108 100 (omega (arith, ltb-true, ltb-false, eqb-true, eqb-apart)) (omega (arith, ltb-true, ltb-false, eqb-true, eqb-apart)) (omega (arith, ltb-true, ltb-false, eqb-true, eqb-apart)) (omega (arith, ltb-true, ltb-false, eqb-true, eqb-apart)) (omega (arith, ltb-true, ltb-false, eqb-true, eqb-apart)) (omega (arith, ltb-true, ltb-false, eqb-true, eqb-apart)) in (
+      omega arith,
+      (
+        take (length (c .args .job .now) - 5) (drop 5 (c .args .job .now)),
+        front,
+        subst (λ vs. Tail (take (length (c .args .job .now) - 5) (drop 5 (c .args .job .now))) 1 vs (c .in-Some .netlist .now)) (take-one (c .in-Some .row .at) (c .in-Some .ensures tt .0)) (c .in-Some .ensures tt .1),
+      ),
+    )

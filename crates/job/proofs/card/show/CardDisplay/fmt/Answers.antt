@@ -22,9 +22,9 @@ loop-i-again g c plain =
     let before = c .loop-i .inv plain in
     let now = c .in-Continue-write-2 .ensures tt .shows (before .plain) refl in
     put-is _ _ _ _ _
-      (ap₂ (λ n t. joined line (take i (terms-of self)) ++ (10 ∷ term-line n t)) (c .row-row .ensures .words) (c .row-row .ensures .term)
-        ∙ sym (rw add-one (joined-more line (terms-of self) i no-row (omega arith))))
-      (put-more _ _ _ _ _ _ before now)
+    (ap₂ (λ n t. joined line (take i (terms-of self)) ++ (10 ∷ term-line n t)) (c .row-row .ensures .words) (c .row-row .ensures .term)
+    ∙ sym (rw add-one (joined-more line (terms-of self) i no-row (omega arith))))
+    (put-more _ _ _ _ _ _ before now)
 
 pub returns : need.returns
 returns g c plain ok =
@@ -33,7 +33,7 @@ returns g c plain ok =
     let long : length (terms-of self) ≡ self .len = length-take-le (self .len) (self .rows) (omega (arith, self .few, self .all)) in
     let first = c .in-Continue-write .ensures tt .shows plain refl in
     put-is _ _ _ _ _
-      (ap₂ (λ h ts. h ++ joined line ts)
-        (ap (λ h. header-line (h .words) (h .width) (h .polynomial) (h .rows) (h .degree)) (c .header-header .ensures) ∙ ap (λ n. header-line (self .words) (self .width) (self .polynomial) n (degree (terms-of self))) (sym long))
-        (take-all (c .loop-i .i) (terms-of self) (omega arith)))
-      (put-more _ _ _ _ _ _ first (c .loop-i .inv (first .plain)))
+    (ap₂ (λ h ts. h ++ joined line ts)
+    (ap (λ h. header-line (h .words) (h .width) (h .polynomial) (h .rows) (h .degree)) (c .header-header .ensures) ∙ ap (λ n. header-line (self .words) (self .width) (self .polynomial) n (degree (terms-of self))) (sym long))
+    (take-all (c .loop-i .i) (terms-of self) (omega arith)))
+    (put-more _ _ _ _ _ _ first (c .loop-i .inv (first .plain)))
