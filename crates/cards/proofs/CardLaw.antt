@@ -33,6 +33,7 @@ use Rattle.terms.proofs.BothKinds.{exp-laws}
 use Rattle.terms.proofs.Numbers.{joined-capped}
 use Rattle.convert.specs.Convert.{chosen, converting, Converted, finished, stopped, Answered}
 use Rattle.terms.specs.Sets.{holds}
+use Rattle.terms.specs.Values.{value-at, bit-at}
 use Rattle.convert.specs.declared.FullTable.{FullTable}
 use Rattle.fault.specs.declared.Fault.{Fault}
 use Rattle.convert.proofs.Alike.{other, other-laws, converting-alike}
@@ -41,11 +42,12 @@ use Rattle.convert.proofs.More.{more-rows}
 use Rattle.convert.proofs.Plain.{plain, plains}
 use Rattle.convert.proofs.Steps.{monos-append}
 use Rattle.convert.proofs.Value.{Z, converting-table}
-use Rattle.cards.specs.Law.{IsInput, card-value, held-bits, form-value, Polynomial, CardOf}
+use Rattle.cards.specs.Law.{IsInput, card-value, Polynomial, BitTerms, CardOf}
 use Rattle.cards.specs.Sums.{bit-sum, card-kind}
 use Rattle.cards.specs.Working.{bit-factors, card-working, card-fault, CardAnswered}
 use Rattle.cards.proofs.Blocks.{row-own}
 use Rattle.cards.proofs.Counts.{rows-counted}
+use Rattle.cards.proofs.Held.{held-bits, value-held}
 use Rattle.cards.proofs.Total.{total, total-laws, dual-total, value-same, sum-is}
 
 -- the order of rows, and their product
@@ -285,7 +287,7 @@ module _ (m : FieldData) (l : FieldLaws m) (n : ℕ) (few : n ≤ 3) (d : ℕ �
       finished-is : (a b : List (Term (List ℕ))) → _≡_ {A = Converted (List ℕ)} (finished a) (finished b) → a ≡ b
       finished-is a b p = cc
 
-  module _ (cap rows : ℕ) (bits : List (Term NetSet)) (codes : Codes (λ c. c < q) bits) (us : List (Term (List ℕ))) (e : card-working m n d cap rows bits ≡ finished us) where
+  module _ (cap rows : ℕ) (bits : List (Term NetSet)) (terms : BitTerms m n bits) (us : List (Term (List ℕ))) (e : card-working m n d cap rows bits ≡ finished us) where
     abbrev places : ℕ
     places = n * m .width
 
@@ -309,7 +311,7 @@ module _ (m : FieldData) (l : FieldLaws m) (n : ℕ) (few : n ≤ 3) (d : ℕ �
         worked ∙ ap (λ (f : NetSet → List (List (A.Term ℕ (List ℕ)))). tableConverted C codeXor Z rowOrder (rowMul q) (unitRow 3) f (plain bits) []) facts in
         subst (IsCardOf (total m) held 3 (plain bits)) (sym is)
         (card-worked (record { it = total m; laws = total-laws m l }) NetSet rowOrder held d 3 (λ i h. dual-total m l i (d i) (duals i h)) (plain bits)
-        (codes-within m held (λ s. bits-within (m .width) (holds s) wp 0 places (let u = places-few in omega arith)) bits codes))
+        (codes-within m held (λ s. bits-within (m .width) (holds s) wp 0 places (let u = places-few in omega arith)) bits (terms .codes)))
 
     us-codes : Codes (λ c. c < q) us
     us-codes = row-codes m us (made .rows)
@@ -317,14 +319,14 @@ module _ (m : FieldData) (l : FieldLaws m) (n : ℕ) (few : n ≤ 3) (d : ℕ �
     us-rows : Monos Own us
     us-rows = kept cap rows bits us e .1
 
-    values : (xs : List ℕ) → IsInput m n xs → card-value m us xs ≡ form-value m n bits xs
+    values : (xs : List ℕ) → IsInput m n xs → card-value m us xs ≡ value-at (bit-at (m .width) xs) bits
     values xs h =
         let i : Input m 3 xs = own-row m n xs h in
         value-plain m us xs ∙ sym (value-same m l (plain us) xs 3 (codes-plain (λ c. c < q) us us-codes) i) ∙ made .values xs i
-        ∙ sym (held-plain (total m) (λ s. allOnes (held s) xs) bits)
+        ∙ sym (held-plain (total m) (λ s. allOnes (held s) xs) bits) ∙ sym (value-held (m .width) places xs (let u = places-few in let w = l .wide in omega arith) bits (terms .within))
 
     -- at any three words, as at those with the words past n made 0
-    agree : (p : List (Term (List ℕ))) → Monos Own p → ((xs : List ℕ) → IsInput m n xs → card-value m p xs ≡ form-value m n bits xs)
+    agree : (p : List (Term (List ℕ))) → Monos Own p → ((xs : List ℕ) → IsInput m n xs → card-value m p xs ≡ value-at (bit-at (m .width) xs) bits)
         → (xs : List ℕ) → Input m 3 xs → valueAt m (plain p) xs ≡ valueAt m (plain us) xs
     agree p o v xs i =
         let cuts : IsInput m n (cut tops xs) = cut-inside q tops xs tops-cases i in
@@ -349,7 +351,7 @@ module _ (m : FieldData) (l : FieldLaws m) (n : ℕ) (few : n ≤ 3) (d : ℕ �
     dual = d;
     duals = duals;
     worked = a;
-    made = λ codes. card-of m l n few d duals cap count bits codes (take t rows) (a .0);
+    made = λ terms. card-of m l n few d duals cap count bits terms (take t rows) (a .0);
     enough = λ _ _. refl;
     more = λ cap′ count′ h r. more m l n few d duals cap cap′ count count′ h r bits;
   }

@@ -1,15 +1,15 @@
 -- What a card is: the one polynomial in the words with the bit form's value at every input. Assumes nothing.
 use mathlib.Core.Path.{_≡_}
-use mathlib.Core.Bool.{Bool, true, cond}
-use mathlib.Core.List.{List, [], _∷_}
-use Prim.Native.Nat.{ℕ, zero, suc, _*_, _/_, _%_, _<_}
+use mathlib.Core.Bool.{true}
+use mathlib.Core.List.{List}
+use Prim.Native.Nat.{ℕ, _*_, _<_}
 use Rattle.algebra.specs.Codes.{rowPower}
 use Rattle.algebra.specs.Field.{FieldData, size}
-use Rattle.algebra.specs.Theorems.{allOnes}
 use Rattle.terms.specs.Terms.{Falling, Nonzero, Codes, Monos, value}
 use Rattle.terms.specs.declared.Term.{Term}
 use Rattle.terms.specs.declared.nets.NetSet.{NetSet}
-use Rattle.terms.specs.Sets.{holds}
+use Rattle.terms.specs.Sets.{Within}
+use Rattle.terms.specs.Values.{value-at, bit-at}
 use Rattle.cards.specs.Sums.{card-kind}
 
 -- an input of n words, in three numbers: each below q, and 0 past word n (the same numbers that an exponent row of n words may hold)
@@ -20,14 +20,10 @@ IsInput m n xs = card-kind m n .own xs ≡ true
 abbrev pub card-value : FieldData → List (Term (List ℕ)) → List ℕ → ℕ
 card-value m ts xs = value (λ c r. m .times c (rowPower m r xs)) ts
 
--- the bits that a set holds, as a word and a place in it, among `count` nets from net p on
-abbrev pub held-bits : ℕ → (ℕ → Bool) → ℕ → ℕ → List (ℕ × ℕ)
-held-bits k held p zero = []
-held-bits k held p (suc count) = cond (held p) ((p / k, p % k) ∷ held-bits k held (suc p) count) (held-bits k held (suc p) count)
-
--- the sum of the codes of the sets of which every bit of the n words is a one bit of the input
-abbrev pub form-value : FieldData → ℕ → List (Term NetSet) → List ℕ → ℕ
-form-value m n bits xs = value (λ c s. cond (allOnes (held-bits (m .width) (holds s) 0 (n * m .width)) xs) c 0) bits
+-- terms of a bit form in n words: codes below q, and sets of the bits of the words
+pub record BitTerms (m : FieldData) (n : ℕ) (bits : List (Term NetSet)) : Type 0 where
+  pub codes : Codes (λ c. c < size m) bits
+  pub within : Monos (Within (n * m .width)) bits
 
 -- a polynomial in n words: nonzero codes below q, exponents up to q − 1 and 0 past word n, in falling order of the rows
 pub record Polynomial (m : FieldData) (n : ℕ) (ts : List (Term (List ℕ))) : Type 0 where
@@ -39,5 +35,5 @@ pub record Polynomial (m : FieldData) (n : ℕ) (ts : List (Term (List ℕ))) : 
 -- a card has the bit form's value at every input, and no other polynomial has
 pub record CardOf (m : FieldData) (n : ℕ) (bits : List (Term NetSet)) (card : List (Term (List ℕ))) : Type 0 where
   pub polynomial : Polynomial m n card
-  pub values : (xs : List ℕ) → IsInput m n xs → card-value m card xs ≡ form-value m n bits xs
-  pub only : (p : List (Term (List ℕ))) → Polynomial m n p → ((xs : List ℕ) → IsInput m n xs → card-value m p xs ≡ form-value m n bits xs) → p ≡ card
+  pub values : (xs : List ℕ) → IsInput m n xs → card-value m card xs ≡ value-at (bit-at (m .width) xs) bits
+  pub only : (p : List (Term (List ℕ))) → Polynomial m n p → ((xs : List ℕ) → IsInput m n xs → card-value m p xs ≡ value-at (bit-at (m .width) xs) bits) → p ≡ card

@@ -11,14 +11,14 @@ use Rattle.algebra.specs.Codes.{Dual}
 use Rattle.algebra.specs.Field.{FieldData, product, size}
 use Rattle.fault.specs.declared.Fault.{Fault}
 use Rattle.fault.specs.declared.Fault.the-variants.{ProductTableFull, CardTableFull}
-use Rattle.terms.specs.Terms.{blank, Table, Codes}
+use Rattle.terms.specs.Terms.{blank, Table}
 use Rattle.terms.specs.declared.Term.{Term}
 use Rattle.terms.specs.declared.nets.NetSet.{NetSet}
 use Rattle.convert.specs.Convert.{chosen, Converted, finished, stopped, converting}
 use Rattle.terms.specs.Sets.{holds}
 use Rattle.convert.specs.declared.FullTable.{FullTable}
 use Rattle.convert.specs.declared.FullTable.the-variants.{Product, Outcome}
-use Rattle.cards.specs.Law.{CardOf}
+use Rattle.cards.specs.Law.{BitTerms, CardOf}
 use Rattle.cards.specs.Sums.{bit-sum, card-kind}
 
 -- the number of input words that counts: 1 for a number below 1, 3 for one above 3
@@ -54,8 +54,8 @@ pub record CardAnswered (m : FieldData) (n cap count : ℕ) (bits : List (Term N
   pub dual : ℕ → ℕ
   pub duals : (i : ℕ) → i < m .width → Dual m i (dual i)
   pub worked : CardEnd m n (card-working m n dual cap count bits) count rows answer
-  -- what a bit form with codes of the field ends in is its card
-  pub made : Codes (λ c. c < size m) bits → Made m n bits rows answer
+  -- what a bit form in n words ends in is its card
+  pub made : BitTerms m n bits → Made m n bits rows answer
   -- q^n rows suffice in each table
   pub enough : size m ^ n ≤ cap → size m ^ n ≤ count → isOk answer ≡ true
   -- a working that ends, ends the same with more rows

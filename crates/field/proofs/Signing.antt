@@ -14,8 +14,7 @@ use lib.ListN.{getD}
 use borrow.Author.Tests.{eq-eqb, eqb-true, eqb-false, ne-eqb}
 use Rattle.algebra.specs.Field.{FieldData, FieldLaws, size, product}
 use Rattle.algebra.specs.Codes.{bitOf, codeSum, trace, Dual}
-use Rattle.algebra.proofs.Coef.{decB-yes, decB-no}
-use Rattle.algebra.proofs.Digits.{xorSum, place, bitB, packed-bits, packed-bit, packed-lt}
+use Rattle.algebra.proofs.Digits.{xorSum, place, bitB, one-bit, packed-bits, packed-bit, packed-lt}
 use Rattle.algebra.proofs.Theory.{field-theory}
 use Rattle.algebra.proofs.Total.{product-below, product-dist-r}
 use Rattle.field.specs.Signatures.{combined, signature}
@@ -39,13 +38,6 @@ module _ (m : FieldData) (l : FieldLaws m) where
   -- a map that takes sums of codes to sums
   abbrev pub Additive : (ℕ → ℕ) → Type 0
   Additive f = (a b : ℕ) → a < size m → b < size m → f (bitXor a b) ≡ bitXor (f a) (f b)
-
-  one-bit : (x i : ℕ) → eqb (bitOf x i) 1 ≡ bitB x i
-  one-bit x i =
-      elim (ℕ-discrete (bitOf x i) 1) [
-        | yes e ↦ eq-eqb (bitOf x i) 1 e ∙ sym (decB-yes (ℕ-discrete (bitOf x i) 1) e)
-        | no n ↦ ne-eqb (bitOf x i) 1 n ∙ sym (decB-no (ℕ-discrete (bitOf x i) 1) n)
-      ]
 
   module _ (f : ℕ → ℕ) (additive : Additive f) where
     at-zero : f 0 ≡ 0

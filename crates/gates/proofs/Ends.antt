@@ -27,8 +27,8 @@ use Rattle.netlist.proofs.Meanings.{tails-agree, kept}
 use Rattle.terms.specs.Sets.{holds, among, Own, Within, Top, SetOf, Net-laws}
 use Rattle.terms.specs.Additions.{Ended, done, full, adding}
 use Rattle.gates.specs.Reductions.{OutTerms, Put, TailTerms, Reduces, empty, bits, stops, step, Worked, goes}
-use Rattle.terms.specs.Values.{every, set-on, value-at}
-use Rattle.gates.specs.Forms.{Terms-of, Keeps, Right-end, bit-at, Value-at-words}
+use Rattle.terms.specs.Values.{every, set-on, value-at, bit-at}
+use Rattle.gates.specs.Forms.{Terms-of, Keeps, Right-end, Value-at-words}
 use Rattle.gates.proofs.Lit.{every-same, on-among}
 use Rattle.terms.proofs.Additions.{Terms-all, adding-keeps}
 use Rattle.gates.proofs.Kept.{All-below, value-at-adding, value-at-step}

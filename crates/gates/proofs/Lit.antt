@@ -13,16 +13,9 @@ use Rattle.netlist.specs.Circuits.{Below}
 use Rattle.netlist.specs.Meaning.{all-on}
 use Rattle.terms.specs.Sets.{among}
 use Rattle.terms.specs.Values.{every}
+use Rattle.terms.proofs.Values.{every-true}
 
 -- ---- every
-every-true : (n : ℕ) → every n (λ _. true) ≡ true
-unfolding every
-every-true zero = refl
-every-true (suc n) = every-true n
-
-pub every-all : (n : ℕ) (p : ℕ → Bool) → ((h : ℕ) → p h ≡ true) → every n p ≡ true
-every-all n p e = (λ i. every n (λ h. e h i)) ∙ every-true n
-
 and-four : (a b c d : Bool) → ((a && b) && (c && d)) ≡ ((a && c) && (b && d))
 and-four true true c d = refl
 and-four true false true d = refl

@@ -20,10 +20,11 @@ use Rattle.terms.specs.declared.nets.NetSet.{NetSet}
 use Rattle.terms.proofs.Laws.{added-monos, added-falling, added-nonzero, coeff-added, unique, xor-cancel}
 use Rattle.terms.proofs.BothKinds.{net-laws}
 use Rattle.terms.proofs.Members.{laws-of-sets}
+use Rattle.terms.proofs.Values.{every-all}
 use Rattle.terms.proofs.Additions.{Terms-all, adding-keeps}
 use Rattle.netlist.specs.Circuits.{Circuit, inputs}
 use Rattle.gates.specs.Forms.{Bit-form, Only-form}
-use Rattle.gates.proofs.Lit.{every-all, on-split}
+use Rattle.gates.proofs.Lit.{on-split}
 use Rattle.gates.proofs.Kept.{xor-turn, value-at-adding}
 use Rattle.gates.proofs.Ends.{value-at-agree}
 use Rattle.gates.proofs.Enough.{sums, wanted, adding-all}

@@ -2,18 +2,18 @@
 use mathlib.Core.Path.{_≡_}
 use mathlib.Core.Bool.{Bool, false}
 use mathlib.Core.List.{List}
-use Prim.Native.Nat.{ℕ, _/_, _%_, _^_, _<_, _≤_}
+use Prim.Native.Nat.{ℕ, _^_, _<_, _≤_}
 use lib.ListN.{length, getD}
 use Rattle.terms.specs.Terms.{Falling, Nonzero, Codes, Monos}
 use Rattle.terms.specs.Nets.{net-model}
 use Rattle.terms.specs.declared.Term.{Term}
 use Rattle.terms.specs.declared.nets.NetSet.{NetSet}
 use Rattle.netlist.specs.Circuits.{Circuit, WellFormed, inputs, nets}
-use Rattle.netlist.specs.Meaning.{bit, output, bit-of, output-at}
+use Rattle.netlist.specs.Meaning.{bit, output, output-at}
 use Rattle.terms.specs.Sets.{Own, Within}
 use Rattle.terms.specs.Additions.{Ended, done, full}
 use Rattle.gates.specs.Reductions.{Reduces, Worked}
-use Rattle.terms.specs.Values.{value-at}
+use Rattle.terms.specs.Values.{value-at, bit-at}
 
 -- terms of sets, in falling order, of nets that the circuit drives
 pub record Terms-of (c : Circuit) (ts : List (Term NetSet)) : Type 0 where
@@ -40,10 +40,6 @@ pub record Bit-form (c : Circuit) (us : List (Term NetSet)) : Type 0 where
 -- a circuit has one bit form: its meaning fixes the list
 abbrev pub Only-form : Type 0
 Only-form = (c : Circuit) (us vs : List (Term NetSet)) → Bit-form c us → Bit-form c vs → us ≡ vs
-
--- the bit that net x has at these input words: bit x % k of word x / k
-abbrev pub bit-at : ℕ → List ℕ → ℕ → Bool
-bit-at k xs x = bit-of (getD xs (x / k) 0) (x % k)
 
 -- at input words, a bit form has the value that the gates give there
 abbrev pub Value-at-words : Type 0
