@@ -27,7 +27,10 @@ fn tell_steps(rt: &LibcRuntime, job: &[u8]) -> Result<(), AnyError> {
     let width = work.field.width();
     let polynomial = work.field.modulus();
     let gates = work.netlist.nets().saturating_sub(work.netlist.inputs());
-    eprintln!(rt, "read: {words} words of {width} bits, {gates} gates, field polynomial {polynomial}")?;
+    eprintln!(
+        rt,
+        "read: {words} words of {width} bits, {gates} gates, field polynomial {polynomial}"
+    )?;
     let mut rows = [Term {
         code: 0,
         mono: Nets.unit(),

@@ -233,7 +233,7 @@ sum-own : (m : FieldData) (n w δ : ℕ) → w < n → n ≤ 3 → (j : ℕ) →
 sum-own m n w δ h l zero u = tt
 sum-own m n w δ h l (suc j) u = monos-append (λ r. card-kind m n .own r ≡ true) (bit-sum m w δ j) _ (sum-own m n w δ h l j (omega arith)) (row-own m n w j h l u, tt)
 
-chosen-all : {M : Type 0} (Q : List (Term M) → Type 0) (held : ℕ → Bool) (f : ℕ → List (Term M)) (places : ℕ) → ((p : ℕ) → p < places → Q (f p))
+pub chosen-all : {M : Type 0} (Q : List (Term M) → Type 0) (held : ℕ → Bool) (f : ℕ → List (Term M)) (places : ℕ) → ((p : ℕ) → p < places → Q (f p))
     → (i n : ℕ) → i + n ≤ places → A.All Q (chosen held f i n)
 chosen-all Q held f places e i zero h = tt
 chosen-all Q held f places e i (suc n) h =

@@ -1,15 +1,18 @@
 -- The working from a polynomial in the words to its bit form, and what is answered. Assumes nothing.
 use mathlib.Core.Path.{_≡_}
+use mathlib.Core.Bool.{true}
 use mathlib.Core.List.{List, []}
-use Prim.Native.Nat.{ℕ, _*_, _/_, _%_, _≤_}
+use Prim.Native.Nat.{ℕ, _*_, _/_, _%_, _^_, _≤_}
 use lib.ListN.{take, replicate}
+use Rattle.std.specs.Results.{isOk}
 use Rattle.std.specs.declared.result.Result.{Result}
 use Rattle.std.specs.declared.result.Result.the-variants.{Ok, Err}
 use Rattle.algebra.specs.Field.{FieldData, product}
 use Rattle.fault.specs.declared.Fault.{Fault}
 use Rattle.fault.specs.declared.Fault.the-variants.{BitTableFull}
 use Rattle.terms.specs.Nets.{net-model}
-use Rattle.terms.specs.Terms.{blank, Table}
+use Rattle.terms.specs.Sets.{Within}
+use Rattle.terms.specs.Terms.{blank, Table, Monos}
 use Rattle.terms.specs.declared.Term.{Term}
 use Rattle.terms.specs.declared.nets.NetSet.{NetSet}
 use Rattle.convert.specs.Convert.{chosen, Converted, finished, stopped, converting}
@@ -30,10 +33,19 @@ abbrev pub BitsEnd : Converted NetSet → ℕ → List (Term NetSet) → Result 
 BitsEnd end count rows (Ok t) = (end ≡ finished (take t rows)) × Table net-model rows t
 BitsEnd end count rows (Err e) = (t : FullTable) × (end ≡ stopped t) × (e ≡ BitTableFull) × (rows ≡ replicate count (blank net-model))
 
+-- where a number is answered, the sets hold bits of the n words alone
+abbrev pub InputBits : FieldData → ℕ → List (Term NetSet) → Result ℕ Fault → Type 0
+InputBits m n rows (Ok t) = Monos (Within (n * m .width)) (take t rows)
+InputBits m n rows (Err e) = Unit {0}
+
 -- the answer to a call with product tables of `cap` rows and a result table of `count` rows, which are `rows` then
 pub record BitsAnswered (m : FieldData) (n cap count : ℕ) (card : List (Term (List ℕ))) (rows : List (Term NetSet)) (answer : Result ℕ Fault) : Type 0 where
   -- it is that of the working
   pub worked : BitsEnd (bits-working m n cap count card) count rows answer
+  -- the sets hold bits of the n words alone
+  pub inputs : InputBits m n rows answer
+  -- 2^(n·k) rows suffice in each table
+  pub enough : 2 ^ (n * m .width) ≤ cap → 2 ^ (n * m .width) ≤ count → isOk answer ≡ true
   -- a working that ends, ends the same with more rows
   pub more : (cap′ count′ : ℕ) → cap ≤ cap′ → count ≤ count′ → (form : List (Term NetSet)) → bits-working m n cap count card ≡ finished form
       → bits-working m n cap′ count′ card ≡ finished form
