@@ -53,7 +53,7 @@ fn dual_squares<F: Field>(field: &F) -> [[u16; 8]; 8]
 }
 
 // The sums of the bits of `n` words: k terms for each place, in the places' order.
-pub fn bit_sums<F: Field>(field: &F, n: usize) -> [Term<[u16; 3]>; 192]
+pub(crate) fn bit_sums<F: Field>(field: &F, n: usize) -> [Term<[u16; 3]>; 192]
     requires { ⌜ n ≤ 3 ⌝ }
     ensures { λ r. ⌜ BitSums (model (now (field .entry))) n r ⌝ }
 {
@@ -94,7 +94,7 @@ fn one_net(p: usize) -> NetSet
 }
 
 // The sums of the powers 1, 2, 4, … of `n` words: k terms for each place, in the places' order.
-pub fn word_sums<F: Field>(field: &F, n: usize) -> [Term<NetSet>; 192]
+pub(crate) fn word_sums<F: Field>(field: &F, n: usize) -> [Term<NetSet>; 192]
     requires { ⌜ n ≤ 3 ⌝ }
     ensures { λ r. ⌜ WordSums (model (now (field .entry))) n r ⌝ }
 {
