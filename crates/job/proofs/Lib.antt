@@ -1,4 +1,6 @@
 mod Joining
 mod Opening
+mod Once
+mod Sole
 mod Threes
 mod Working

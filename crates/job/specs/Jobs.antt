@@ -49,15 +49,21 @@ pub data NoPolynomial (netlist : List ℕ) : Option ℕ → Type 0 where
 abbrev pub WordsGiven : List ℕ → ℕ → Type 0
 WordsGiven netlist n = (a b : ℕ) (rest : List ℕ) → Line 0 netlist Words (a ∷ b ∷ []) rest → n ≡ max 1 (min a 3)
 
--- The job is the text of circuit c, of n words of k bits, over the field of p, which is irreducible of degree k.
+-- p makes the field of k bits: it is irreducible, of degree k.
+pub record Makes (p k : ℕ) : Type 0 where
+  pub degree : Degree k p
+  pub narrow : 2 ≤ k
+  pub wide : k ≤ 8
+  pub irreducible : Irreducible p
+
+-- The job is the text of circuit c, of n words of k bits, over the field of p.
 pub record Opened (job : List ℕ) (p k n : ℕ) (c : Circuit) : Type 0 where
   pub short : length job ≤ 16384
   pub name : Option ℕ
   pub netlist : List ℕ
   pub parts : Parts job name netlist
   pub polynomial : FieldPolynomial netlist name p
-  pub degree : Degree k p
-  pub irreducible : Irreducible p
+  pub field : Makes p k
   pub words : WordsGiven netlist n
   pub accepted : Accepted n k netlist c
 
@@ -70,4 +76,4 @@ pub data NotOpened (job : List ℕ) : Fault → Type 0 where
   field : {f : Fault} (name : Option ℕ) (netlist : List ℕ) (p : ℕ) → length job ≤ 16384 → Parts job name netlist → FieldPolynomial netlist name p
       → ShiftRefused p f → NotOpened job f
   reader : {f : Fault} (name : Option ℕ) (netlist : List ℕ) (p k n : ℕ) → length job ≤ 16384 → Parts job name netlist → FieldPolynomial netlist name p
-      → Degree k p → Irreducible p → WordsGiven netlist n → Refused n k netlist f → NotOpened job f
+      → Makes p k → WordsGiven netlist n → Refused n k netlist f → NotOpened job f

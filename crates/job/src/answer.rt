@@ -1,4 +1,7 @@
 // The whole working of a job, on tables of 512 rows.
+ghost use mathlib.Core.List.{List};
+ghost use mathlib.Core.Path.{_≡_};
+ghost use Prim.Native.Nat.{ℕ};
 ghost use Rattle.std.specs.declared.option.Option.the-variants.{Some};
 ghost use Rattle.job.specs.Answers.{Answered};
 ghost use Rattle.job.specs.Printed.{Printed, shown-outcome};
@@ -70,9 +73,10 @@ pub impl fmt::Display for Outcome as OutcomeDisplay {
     }
 }
 
-// The answer to a job: what is shown of it is what the program is to write.
+// The answer to a job: what is shown of it is what the program is to write, and no other text is.
 pub fn answer(job: &[u8]) -> Outcome
-    ensures { λ r. ⌜ Printed (now (job .entry)) (shown-outcome r) ⌝ }
+    ensures printed { λ r. ⌜ Printed (now (job .entry)) (shown-outcome r) ⌝ }
+    ensures only { λ r. ⌜ ((text : List ℕ) → Printed (now (job .entry)) text → text ≡ shown-outcome r) ⌝ }
 {
     match work(job) {
         Ok(card) => Outcome::Card(card),

@@ -10,7 +10,7 @@ use Rattle.lines.specs.declared.Op.the-variants as op
 use Rattle.lines.specs.declared.Head.{Head}
 use Rattle.lines.specs.declared.Head.the-variants.{Words, Out}
 use Rattle.lines.specs.declared.Head.the-variants as head
-use Rattle.lines.specs.Text.{keyword, numeral, numbers, Small, line, places, Line}
+use Rattle.lines.specs.Text.{keyword, numeral, numbers, Small, line, places, Line, Tail}
 use Rattle.lines.proofs.Numbers.{same-number}
 use Rattle.lines.proofs.Tails.{tail-ends}
 use Rattle.lines.proofs.Heads.{same-head}
@@ -26,6 +26,9 @@ same-numbers (v ∷ vs) (w ∷ ws) r t n a b e =
     (record { small = a .0; bytes = refl; ends = tail-ends vs r }) (record { small = b .0; bytes = g; ends = tail-ends ws t }) in
     let rest = same-numbers vs ws r t (omega arith) (a .1) (b .1) (one .1) in
     ((λ i. one .0 i ∷ rest .0 i), rest .1)
+
+pub same-tail : {s : List ℕ} {n : ℕ} {vs ws r t : List ℕ} → Tail s n vs r → Tail s n ws t → (vs ≡ ws) × (r ≡ t)
+same-tail {s} {n} {vs} {ws} {r} {t} x y = same-numbers vs ws r t (x .many ∙ sym (y .many)) (x .small) (y .small) (sym (x .bytes) ∙ y .bytes)
 
 pub record SameLine (h g : Head) (vs ws r t : List ℕ) : Type 0 where
   pub same-word : h ≡ g

@@ -32,5 +32,5 @@ returns-in-Break-netlist c =
     rw (p .1) (subst (NotOpened (c .args .job .now)) (sym (p .2))
     (reader _ _ (f .p) (f .k) (c .words-of .result) (parts .0) (parts .1)
     (subst (FieldPolynomial (c .in-Continue-parts .parts .netlist .now) (c .in-Continue-parts .parts .polynomial)) (sym (c .in-Continue-field .ensures tt)) (c .in-Continue-polynomial-of .ensures tt))
-    (record { low = f .low; high = f .high }) (f .irreducible) (c .words-of .ensures)
+    (record { degree = record { low = f .low; high = f .high }; narrow = f .narrow; wide = f .wide; irreducible = f .irreducible }) (c .words-of .ensures)
     (subst (λ (k : ℕ). Refused (c .words-of .result) k (c .in-Continue-parts .parts .netlist .now) (c .in-Break-netlist .field-0 .0)) (c .width .ensures) (c .in-Break-netlist .ensures tt .right))))
