@@ -8,6 +8,7 @@ use Rattle.fault.specs.declared.Fault.the-variants.{PolynomialOutOfRange, Poly
 use Rattle.fault.specs.declared.Part.{Part}
 use Rattle.fault.specs.declared.Part.the-variants.{Field, Reader, Bits, Card}
 
+-- the number of a refusal
 abbrev pub number : Fault → ℕ
 number PolynomialOutOfRange = 1
 number PolynomialReducible = 2
@@ -26,6 +27,7 @@ number TooManyBitTerms = 31
 number ProductTableFull = 40
 number CardTableFull = 41
 
+-- the part of the product that refuses
 abbrev pub part : Fault → Part
 part PolynomialOutOfRange = Field
 part PolynomialReducible = Field
@@ -63,6 +65,7 @@ place TooManyBitTerms = 0
 place ProductTableFull = 0
 place CardTableFull = 0
 
+-- the part as it is written
 abbrev pub part-name : Part → List ℕ
 part-name Field = codes "field"
 part-name Reader = codes "reader"

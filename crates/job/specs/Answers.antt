@@ -56,6 +56,7 @@ pub data Refused (job : List ℕ) : Fault → Type 0 where
   words : (p k n : ℕ) (c : Circuit) → Opened job p k n c → (us : List (Term NetSet)) → Found c 512 us → (δ : ℕ → ℕ) → Duals (shift-data k p) δ
       → (t : FullTable) → card-working (shift-data k p) n δ 512 512 us ≡ stopped t → Refused job (card-fault t)
 
+-- the answer: the card, or the refusal
 abbrev pub Answered : List ℕ → Result Card Fault → Type 0
 Answered job (Ok card) = Carded job (card .polynomial) (card .width) (card .words) (terms-of card)
 Answered job (Err f) = Refused job f

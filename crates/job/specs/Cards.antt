@@ -24,8 +24,10 @@ no-row = record { code = 0; mono = [] }
 abbrev pub term-of : Row → Term (List ℕ)
 term-of r = record { code = r .code; mono = r .exponents }
 
+-- the line of a row
 abbrev pub shown-row : Row → List ℕ
 shown-row r = term-line (r .words) (term-of r)
 
+-- the text of a card
 abbrev pub shown-card : Card → List ℕ
 shown-card c = card-text (c .words) (c .width) (c .polynomial) (terms-of c)

@@ -29,6 +29,7 @@ pub data BadJob (job : List ℕ) : Fault → Type 0 where
 abbrev pub default-polynomials : List ℕ
 default-polynomials = 7 ∷ 11 ∷ 25 ∷ 37 ∷ 67 ∷ 131 ∷ 283 ∷ []
 
+-- the one for words of k bits
 abbrev pub default-polynomial : ℕ → ℕ
 default-polynomial k = getD default-polynomials (k - 2) 0
 
