@@ -176,6 +176,26 @@ def card(field, n, bits):
     return result.terms()
 
 
+def back(field, n, rows):
+    """the bit form of a card, by the working from words to bits"""
+    k = field.k
+    rank = lambda s: sum(1 << g for g in s)
+    result = Table(rank, "30 bits 0")
+    for mono, code in rows:
+        first = Table(rank, "30 bits 0")
+        first.add(code, frozenset())
+        for w, e in enumerate(mono):
+            for s in (s for s in range(k) if e >> s & 1):
+                second = Table(rank, "30 bits 0")
+                for nets, c in first.terms():
+                    for i in range(k):
+                        second.add(field.mul(c, field.power(1 << i, 1 << s)), nets | {w * k + i})
+                first = second
+        for nets, c in first.terms():
+            result.add(c, nets)
+    return result.terms()
+
+
 def check(field, n, gates, outs, rows):
     """the card has the Boolean tables' output at every input"""
     k = field.k
@@ -192,6 +212,7 @@ def check(field, n, gates, outs, rows):
 
 
 def worked(job):
+    """what each step of a job makes: the field, the number of words, the bit form and the card"""
     if len(job) > 16384:
         raise Refused("17 reader 0")
     text, p = job, None
@@ -209,19 +230,35 @@ def worked(job):
     field = Field(p)
     n = min(3, max(1, n))
     gates, outs = read(text, n, field.k)
-    rows = card(field, n, bit_form(n, field.k, gates, outs))
+    bits = bit_form(n, field.k, gates, outs)
+    rows = card(field, n, bits)
     if n * field.k <= 10:
         check(field, n, gates, outs, rows)
-    degree = max((sum(mono) for mono, _ in rows), default=0)
-    lines = [("card", n, field.k, p, len(rows), degree)] + [("term", code, *mono) for mono, code in rows]
-    return "".join(" ".join(map(str, line)) + "\n" for line in lines)
+    return field, n, bits, rows
 
 
 def answer(job):
     try:
-        return worked(job)
+        field, n, _, rows = worked(job)
     except Refused as why:
         return f"refused {why}\n"
+    degree = max((sum(mono) for mono, _ in rows), default=0)
+    lines = [("card", n, field.k, field.p, len(rows), degree)] + [("term", code, *mono) for mono, code in rows]
+    return "".join(" ".join(map(str, line)) + "\n" for line in lines)
+
+
+def there_and_back(job):
+    """the line that `trials` writes for a job that has a card"""
+    try:
+        field, n, bits, rows = worked(job)
+    except Refused:
+        return ""
+    counts = f"{len(bits)} bit terms, {len(rows)} rows, {1 << n * field.k if n * field.k <= 8 else 0} inputs, right true"
+    try:
+        again = back(field, n, rows)
+        return f"round: {counts}, same bits {str(again == bits).lower()}, same card {str(card(field, n, again) == rows).lower()}\n"
+    except Refused:
+        return f"round: full, {counts}\n"
 
 
 if __name__ == "__main__":

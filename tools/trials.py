@@ -6,7 +6,7 @@ line `NAME BYTES`, and is followed by a line feed.
 """
 import pathlib
 
-from reference import answer
+from reference import answer, there_and_back
 
 ROOT = pathlib.Path(__file__).resolve().parent.parent
 JOBS = []
@@ -157,7 +157,7 @@ job("product_rows_past_512_in_two_words", six.text(six.chain("and", [0, 1, 2, 8,
 stdin, stdout = b"", b""
 for name, text in JOBS:
     stdin += f"{name} {len(text)}\n".encode() + text + b"\n"
-    stdout += f"{name}\n{answer(text)}".encode()
+    stdout += f"{name}\n{answer(text)}{there_and_back(text)}".encode()
 (ROOT / "crates/trials/stdin").write_bytes(stdin)
 (ROOT / "crates/trials/stdout").write_bytes(stdout)
 print(len(JOBS), "jobs")

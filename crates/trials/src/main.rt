@@ -1,10 +1,13 @@
 // Runs a table of jobs, which it reads from standard input: each stands behind a line `NAME BYTES` and is
-// followed by a line feed. It writes each job's name, then its answer.
+// followed by a line feed. It writes each job's name, then its answer, and for a card what going there and back gave.
+mod rounds;
+
 use job::answer::OutcomeDisplay;
 use job::answer::answer;
 use std::error::AnyError;
 use std::io::Read;
 use std::io::Write;
+use rounds::round;
 
 // The most bytes of a table.
 const MOST: u64 = 1 << 20;
@@ -70,6 +73,7 @@ fn run(rt: &LibcRuntime, table: &[u8]) -> Result<(), AnyError> {
         rt.stdout().write_all(name)?;
         rt.println("")?;
         rt.println(answer(job))?;
+        round(rt, job)?;
         left = rest;
     }
     Ok(())
