@@ -18,6 +18,7 @@ use Rattle.terms.specs.declared.nets.NetSet.{NetSet}
 use Rattle.convert.specs.Convert.{chosen, Converted, finished, stopped, converting}
 use Rattle.convert.specs.Places.{row-held}
 use Rattle.convert.specs.declared.FullTable.{FullTable}
+use Rattle.cards.specs.Law.{Polynomial, FormOf}
 use Rattle.cards.specs.Sums.{word-sum}
 
 -- the factors of an exponent row of n words: for each word w, rising, and each one bit s of its exponent, rising, the word to the power 2^s
@@ -38,12 +39,19 @@ abbrev pub InputBits : FieldData → ℕ → List (Term NetSet) → Result ℕ F
 InputBits m n rows (Ok t) = Monos (Within (n * m .width)) (take t rows)
 InputBits m n rows (Err e) = Unit {0}
 
+-- where a number is answered, the result table holds the bit form
+abbrev pub FormMade : FieldData → ℕ → List (Term (List ℕ)) → List (Term NetSet) → Result ℕ Fault → Type 0
+FormMade m n card rows (Ok t) = FormOf m n card (take t rows)
+FormMade m n card rows (Err e) = Unit {0}
+
 -- the answer to a call with product tables of `cap` rows and a result table of `count` rows, which are `rows` then
 pub record BitsAnswered (m : FieldData) (n cap count : ℕ) (card : List (Term (List ℕ))) (rows : List (Term NetSet)) (answer : Result ℕ Fault) : Type 0 where
   -- it is that of the working
   pub worked : BitsEnd (bits-working m n cap count card) count rows answer
   -- the sets hold bits of the n words alone
   pub inputs : InputBits m n rows answer
+  -- what a polynomial in n words ends in is its bit form
+  pub made : Polynomial m n card → FormMade m n card rows answer
   -- 2^(n·k) rows suffice in each table
   pub enough : 2 ^ (n * m .width) ≤ cap → 2 ^ (n * m .width) ≤ count → isOk answer ≡ true
   -- a working that ends, ends the same with more rows
