@@ -4,14 +4,14 @@ use mathlib.Core.Bool.{Bool, true, false, cond, _&&_, _||_, not}
 use mathlib.Core.Logic.{_⊎_, inl, inr, ⊎-elim}
 use mathlib.Core.List.{List, [], _∷_, _++_}
 use Prim.Native.Nat.{ℕ, zero, suc, _+_, _-_, _*_, _/_, _%_, _^_, _<_, _≤_}
-use native.Mathlib.Nat.{mod-lt, suc-mul, zero-mul}
+use native.Mathlib.Nat.{mod-lt, mod-add-div', add-comm, div-lt-iff-lt-mul, suc-mul, zero-mul}
 use native.Mathlib.Omega.{arith}
 use lib.Arith.{digits-div, digits-mod}
 use lib.Bits.{bitXor}
 use lib.Dec.{ltb, leb, eqb}
 use lib.ListN.{length, getD, take}
-use lib.Pow.{pow-lt, shr-shr}
-use Rattle.std.proofs.shelf.Tests.{cases-bool, cond-false, le-ltb, lt-ltb, leb-true, and-parts, and-from, eqb-true, eq-eqb, true≢false}
+use lib.Pow.{pow-lt, le-ones, shr-shr}
+use Rattle.std.proofs.shelf.Tests.{cond-true, cond-false, le-ltb, lt-ltb, leb-true, le-leb, and-parts, and-from, true≢false}
 use Rattle.std.specs.declared.result.Result.the-variants.{Ok, Err}
 use Rattle.algebra.specs.Codes.{codeOps, bitOf, power, CardRow, Input}
 use Rattle.algebra.specs.Field.{FieldData, FieldLaws, size, product}
@@ -20,22 +20,23 @@ use Rattle.algebra.specs.Table.{Order, put, putAll}
 use Rattle.algebra.specs.Terms as A
 use Rattle.algebra.specs.Theorems.{codeXor, formOf, IsFormOf, ReadsInput}
 use Rattle.algebra.specs.Working.{tableProduct, tableConverted}
-use Rattle.algebra.proofs.Digits.{bitB, one-bit}
+use Rattle.algebra.proofs.Digits.{bitB, one-bit, xorSum, place, packed-lt, packed-bit}
 use Rattle.algebra.proofs.Worked.{form-worked}
 use Rattle.fault.specs.declared.Fault.the-variants.{BitTableFull}
 use Rattle.terms.specs.Exps.{limit, tops-of}
 use Rattle.terms.specs.Kind.{KindModel, KindLaws}
 use Rattle.terms.specs.Nets.{net-model}
 use Rattle.terms.specs.Numbers.{inside}
-use Rattle.terms.specs.Sets.{holds, Own}
+use Rattle.terms.specs.Sets.{holds, Own, Within}
 use Rattle.terms.specs.Terms.{Nonzero, Codes, Monos}
-use Rattle.terms.specs.Values.{set-on, value-at, bit-at}
+use Rattle.terms.specs.Values.{every, set-on, value-at, bit-at}
 use Rattle.terms.specs.declared.Term.{Term}
 use Rattle.terms.specs.declared.nets.NetSet.{NetSet}
 use Rattle.terms.proofs.BothKinds.{net-laws, inside-length}
 use Rattle.terms.proofs.Laws.{Stands, lower, higher, level, stands}
 use Rattle.terms.proofs.Members.{laws-of-sets}
-use Rattle.terms.proofs.Values.{every-all, every-one}
+use Rattle.terms.proofs.Sole.{Form, same-forms}
+use Rattle.terms.proofs.Values.{every-all, every-at, on-or, value-at-agree}
 use Rattle.convert.specs.Convert.{chosen, Converted, finished, stopped, Answered}
 use Rattle.convert.specs.Places.{row-held}
 use Rattle.convert.specs.declared.FullTable.{FullTable}
@@ -47,7 +48,6 @@ use Rattle.cards.specs.Sums.{one-net, word-term, word-sum, card-kind}
 use Rattle.cards.proofs.BitRows.{enough-bits, more-bits, kept-bits}
 use Rattle.cards.proofs.Blocks.{net-own, net-below, one-member}
 use Rattle.cards.proofs.CardLaw.{value-plain, held-plain, codes-plain, own-row, card-rows}
-use Rattle.cards.proofs.Held.{together, then-on, on-then}
 use Rattle.cards.proofs.Total.{total, total-laws, power-same, value-same, plain-push}
 
 -- ---- the factors of a row, place by place and word by word
@@ -135,43 +135,48 @@ kind-order k L = record {
 
 -- ---- sets at an input
 module _ (v : ℕ → Bool) where
-  on-each : (s : NetSet) → Own s → set-on v s ≡ true → (g : ℕ) → holds s g ≡ true → v g ≡ true
-  on-each s o e g h = on-then (holds s g) (v g) (every-one 256 (λ g. not (holds s g) || v g) e g (laws-of-sets .few s o g h)) h
-
-  each-on : (s : NetSet) → ((g : ℕ) → holds s g ≡ true → v g ≡ true) → set-on v s ≡ true
-  each-on s h = every-all 256 (λ g. not (holds s g) || v g) (λ g. then-on (holds s g) (v g) (h g))
-
   none-on : set-on v (net-model .unit) ≡ true
-  none-on = each-on (net-model .unit) (λ g h. absurd (true≢false (sym h ∙ laws-of-sets .none g)))
-
-  or-left : (a b : Bool) → a ≡ true → (a || b) ≡ true
-  or-left a b h = ap (λ x. x || b) h
-
-  or-right : (a b : Bool) → b ≡ true → (a || b) ≡ true
-  or-right true b h = refl
-  or-right false b h = h
-
-  or-either : (a b : Bool) → (a || b) ≡ true → (a ≡ true) ⊎ (b ≡ true)
-  or-either true b h = inl refl
-  or-either false b h = inr h
+  none-on = every-all 256 (λ g. not (holds (net-model .unit) g) || v g) (λ g. ap (λ b. not b || v g) (laws-of-sets .none g))
 
   union-on : (s t : NetSet) → Own s → Own t → set-on v (net-model .times s t) ≡ (set-on v s && set-on v t)
-  union-on s t a b =
-      let u = net-model .times s t in
-      together (set-on v u) (set-on v s && set-on v t)
-      (λ e. and-from (set-on v s) (set-on v t)
-      (each-on s (λ g h. on-each u (net-laws .times-own s t a b) e g (laws-of-sets .union s t a b g ∙ or-left (holds s g) (holds t g) h)))
-      (each-on t (λ g h. on-each u (net-laws .times-own s t a b) e g (laws-of-sets .union s t a b g ∙ or-right (holds s g) (holds t g) h))))
-      (λ e.
-      let both = and-parts (set-on v s) (set-on v t) e in
-      each-on u (λ g h. ⊎-elim (λ x. on-each s a (both .0) g x) (λ x. on-each t b (both .1) g x) (or-either (holds s g) (holds t g) (sym (laws-of-sets .union s t a b g) ∙ h))))
+  union-on s t a b = (λ i. every 256 (λ g. not (laws-of-sets .union s t a b g i) || v g)) ∙ on-or 256 v (holds s) (holds t)
+
+  or-none : (b : Bool) → (b || false) ≡ b
+  or-none true = refl
+  or-none false = refl
 
   net-on : (p : ℕ) → p < 64 → set-on v (one-net p) ≡ v p
-  net-on p h =
-      let one = one-member p h in
-      together (set-on v (one-net p)) (v p)
-      (λ e. on-each (one-net p) (one .own) e p (one .members p ∙ or-left (eqb p p) false (eq-eqb p p refl)))
-      (λ e. each-on (one-net p) (λ g x. ⊎-elim (λ y. ap v (eqb-true g p y) ∙ e) (λ y. absurd (true≢false (sym y))) (or-either (eqb g p) false (sym (one .members g) ∙ x))))
+  net-on p h = (λ i. every 256 (λ g. not ((one-member p h .members g ∙ or-none (eqb g p)) i) || v g)) ∙ every-at 256 p v (omega arith)
+
+-- ---- the input with given bits
+module _ (k n : ℕ) (kp : 0 < k) (few : n ≤ 3) (v : ℕ → Bool) where
+  abbrev packed : ℕ → ℕ
+  packed w = xorSum k (λ j. place (v (w * k + j)) j)
+
+  -- the words with bit v g at net g, 0 past word n
+  abbrev with-bits : List ℕ
+  with-bits = cond (ltb 0 n) (packed 0) 0 ∷ (cond (ltb 1 n) (packed 1) 0 ∷ (cond (ltb 2 n) (packed 2) 0 ∷ []))
+
+  word-is : (w : ℕ) → w < n → getD with-bits w 0 ≡ packed w
+  word-is zero h = cond-true (ltb 0 n) (packed 0) 0 (lt-ltb 0 n h)
+  word-is (suc zero) h = cond-true (ltb 1 n) (packed 1) 0 (lt-ltb 1 n h)
+  word-is (suc (suc zero)) h = cond-true (ltb 2 n) (packed 2) 0 (lt-ltb 2 n h)
+  word-is (suc (suc (suc w))) h = absurd (omega arith)
+
+  both-leb : (t : Bool) (x y : ℕ) → x ≤ y → leb (cond t x 0) (cond t y 0) ≡ true
+  both-leb true x y h = le-leb x y h
+  both-leb false x y h = le-leb 0 0 (omega arith)
+
+  word-leb : (w : ℕ) → leb (cond (ltb w n) (packed w) 0) (limit (2 ^ k) n w) ≡ true
+  word-leb w = both-leb (ltb w n) (packed w) (2 ^ k - 1) (le-ones k (packed-lt (λ j. v (w * k + j)) k))
+
+  pub with-bits-input : inside (tops-of (2 ^ k) n) with-bits ≡ true
+  with-bits-input = and-from (leb (cond (ltb 0 n) (packed 0) 0) (limit (2 ^ k) n 0)) _ (word-leb 0) (and-from (leb (cond (ltb 1 n) (packed 1) 0) (limit (2 ^ k) n 1)) _ (word-leb 1) (and-from (leb (cond (ltb 2 n) (packed 2) 0) (limit (2 ^ k) n 2)) true (word-leb 2) refl))
+
+  pub with-bits-at : (g : ℕ) → g < n * k → v g ≡ bit-at k with-bits g
+  with-bits-at g h =
+      let back : g / k * k + g % k ≡ g = add-comm (g / k * k) (g % k) ∙ mod-add-div' g k in
+      sym (ap (λ (x : ℕ). eqb (bitOf x (g % k)) 1) (word-is (g / k) (div-lt-iff-lt-mul kp .1 h)) ∙ one-bit (packed (g / k)) (g % k) ∙ packed-bit (λ j. v (g / k * k + j)) k (g % k) (mod-lt g kp) ∙ ap v back)
 
 -- ---- the bit form
 form-codes : (m : FieldData) (ts : List (Term NetSet)) → A.All (λ t. (t .code < size m) × (¬ (t .code ≡ 0)) × Own (t .key)) (plain ts) → Codes (λ c. c < size m) ts
@@ -189,6 +194,9 @@ form-own m (t ∷ ts) a = (a .0 .2, form-own m ts (a .1))
 module _ (m : FieldData) (l : FieldLaws m) (n : ℕ) (few : n ≤ 3) where
   abbrev k : ℕ
   k = m .width
+
+  wp : 0 < k
+  wp = let h = l .narrow in omega arith
 
   abbrev C : Ops ℕ
   C = codeOps (total m)
@@ -245,6 +253,19 @@ module _ (m : FieldData) (l : FieldLaws m) (n : ℕ) (few : n ≤ 3) where
         (form-worked (record { it = total m; laws = total-laws m l }) NetSet Own (λ a b. net-model .less a b ≡ true) order net (net-model .unit) (net-model .times) 3
         (net-laws .unit-own) (net-laws .times-own) net-lawful (plain card) (card-rows m n card (p .codes) (p .nonzero) (p .rows)))
 
+    abbrev Values : List (Term NetSet) → Type 0
+    Values ts = (xs : List ℕ) → IsInput m n xs → value-at (bit-at k xs) ts ≡ card-value m card xs
+
+    values : Values us
+    values xs h =
+        let i : Input m 3 xs = own-row m n xs h in
+        held-plain (total m) (set-on (bit-at k xs)) us ∙ made .values xs (set-on (bit-at k xs)) i (reads xs)
+        ∙ value-same m l (plain card) xs 3 (codes-plain (λ c. c < size m) card (p .codes)) i ∙ sym (value-plain m card xs)
+
+    -- forms with these values agree at all bits
+    at-bits : (ts : List (Term NetSet)) → Monos (Within (n * k)) ts → Values ts → (v : ℕ → Bool) → value-at v ts ≡ card-value m card (with-bits k n wp few v)
+    at-bits ts w h v = value-at-agree v (bit-at k (with-bits k n wp few v)) (n * k) (with-bits-at k n wp few v) ts w ∙ h (with-bits k n wp few v) (with-bits-input k n wp few v)
+
     pub form-of : FormOf m n card us
     form-of =
         let kept = kept-bits m l n cap rows card us e in
@@ -255,10 +276,10 @@ module _ (m : FieldData) (l : FieldLaws m) (n : ℕ) (few : n ≤ 3) where
             sets = form-own m us (made .terms);
             falling = kept .0;
           };
-          values = λ xs h.
-              let i : Input m 3 xs = own-row m n xs h in
-              held-plain (total m) (set-on (bit-at k xs)) us ∙ made .values xs (set-on (bit-at k xs)) i (reads xs)
-              ∙ value-same m l (plain card) xs 3 (codes-plain (λ c. c < size m) card (p .codes)) i ∙ sym (value-plain m card xs);
+          values = values;
+          only = λ ts b h.
+              same-forms ts us (record { own = b .sets; falling = b .falling; nonzero = b .nonzero }) (record { own = form-own m us (made .terms); falling = kept .0; nonzero = form-nonzero m us (made .terms) })
+              (λ v. at-bits ts (b .terms .within) h v ∙ sym (at-bits us (kept .1) values v));
         }
 
   never : {B : Type 0} (us : List (Term NetSet)) (t : FullTable) → _≡_ {A = Converted NetSet} (finished us) (stopped t) → B

@@ -46,7 +46,8 @@ pub record BitForm (m : FieldData) (n : ℕ) (ts : List (Term NetSet)) : Type 0 
   pub sets : Monos Own ts
   pub falling : Falling net-model ts
 
--- the bit form of a polynomial has its value at every input
+-- the bit form of a polynomial has its value at every input, and no other bit form has
 pub record FormOf (m : FieldData) (n : ℕ) (card : List (Term (List ℕ))) (form : List (Term NetSet)) : Type 0 where
   pub bit-form : BitForm m n form
   pub values : (xs : List ℕ) → IsInput m n xs → value-at (bit-at (m .width) xs) form ≡ card-value m card xs
+  pub only : (p : List (Term NetSet)) → BitForm m n p → ((xs : List ℕ) → IsInput m n xs → value-at (bit-at (m .width) xs) p ≡ card-value m card xs) → p ≡ form
