@@ -42,7 +42,7 @@ use Rattle.convert.specs.Places.{row-held}
 use Rattle.convert.specs.declared.FullTable.{FullTable}
 use Rattle.convert.proofs.Plain.{plain, plains}
 use Rattle.convert.proofs.Value.{Z, converting-table}
-use Rattle.cards.specs.BitsWorking.{word-factors, bits-working, BitsAnswered}
+use Rattle.cards.specs.BitsWorking.{word-factors, bits-working, Inverse, BitsAnswered}
 use Rattle.cards.specs.Law.{IsInput, card-value, Polynomial, FormOf}
 use Rattle.cards.specs.Sums.{one-net, word-term, word-sum, card-kind}
 use Rattle.cards.proofs.BitRows.{enough-bits, more-bits, kept-bits}
@@ -282,6 +282,13 @@ module _ (m : FieldData) (l : FieldLaws m) (n : ℕ) (few : n ≤ 3) where
               (λ v. at-bits ts (b .terms .within) h v ∙ sym (at-bits us (kept .1) values v));
         }
 
+    -- the values of the two conversions meet
+    pub inverse : Inverse m n card us
+    inverse = record {
+      card-again = λ cap′ count rows′ t a. sym (a .made (form-of .bit-form .terms) .only card p (λ xs h. sym (values xs h)));
+      form-again = λ bits b c. sym (form-of .only bits b (λ xs h. sym (c .values xs h)));
+    }
+
   never : {B : Type 0} (us : List (Term NetSet)) (t : FullTable) → _≡_ {A = Converted NetSet} (finished us) (stopped t) → B
   never us t p = absurd (let z : _≡_ {A = ℕ} 0 1 = cc in omega arith)
 
@@ -292,6 +299,7 @@ module _ (m : FieldData) (l : FieldLaws m) (n : ℕ) (few : n ≤ 3) where
     worked = a;
     inputs = kept-bits m l n cap count card (take t rows) (a .0) .1;
     made = λ p. form-of cap count card p (take t rows) (a .0);
+    inverse = λ p. inverse cap count card p (take t rows) (a .0);
     enough = λ _ _. refl;
     more = λ cap′ count′ h r form e. more-bits m l n cap cap′ count count′ h r card form e;
   }
@@ -302,6 +310,7 @@ module _ (m : FieldData) (l : FieldLaws m) (n : ℕ) (few : n ≤ 3) where
     worked = (t, a .0, refl, a .1);
     inputs = tt;
     made = λ _. tt;
+    inverse = λ _. tt;
     enough = λ h r. let x = enough-bits m l n cap count h r card in never (x .0) t (sym (x .1) ∙ a .0);
     more = λ cap′ count′ h r form e. more-bits m l n cap cap′ count count′ h r card form e;
   }
