@@ -9,7 +9,7 @@ use native.Mathlib.Omega.{arith}
 use lib.Arith.{digits-lt}
 use lib.Bits.{bitOr, or-lt}
 use lib.Dec.{leb, ltb, eqb}
-use lib.ListN.{getD, take}
+use lib.ListN.{getD}
 use lib.Pow.{pow-lt, pow-mono, pow-pos, le-ones}
 use Rattle.std.proofs.shelf.Tests.{le-leb, leb-true, ltb-true, ltb-false, lt-ltb, le-ltb, and-parts, and-from, cond-true, cond-false, cond-both, cases-bool, eqb-true, true≢false}
 use Rattle.algebra.specs.Field.{FieldData, FieldLaws, product}
@@ -22,15 +22,12 @@ use Rattle.terms.specs.Terms.{Monos, Falling}
 use Rattle.terms.specs.declared.Term.{Term}
 use Rattle.terms.specs.declared.nets.NetSet.{NetSet}
 use Rattle.terms.proofs.BothKinds.{net-laws}
-use Rattle.convert.specs.Convert.{Converted, finished, stopped, Answered}
-use Rattle.convert.specs.declared.FullTable.{FullTable}
-use Rattle.fault.specs.declared.Fault.the-variants.{BitTableFull}
-use Rattle.std.specs.declared.result.Result.the-variants.{Ok, Err}
+use Rattle.convert.specs.Convert.{Converted, finished}
 use Rattle.convert.specs.Places.{row-held}
 use Rattle.convert.proofs.Enough.{Counted, converting-ends}
 use Rattle.convert.proofs.More.{more-rows}
 use Rattle.convert.proofs.Steps.{monos-append}
-use Rattle.cards.specs.BitsWorking.{word-factors, bits-working, BitsAnswered}
+use Rattle.cards.specs.BitsWorking.{word-factors, bits-working}
 use Rattle.cards.specs.Sums.{one-net, word-sum}
 use Rattle.cards.proofs.CardLaw.{chosen-all}
 
@@ -147,42 +144,22 @@ module _ (m : FieldData) (l : FieldLaws m) (n : ℕ) where
   enough-bits cap rows h r card =
       converting-ends net-model net-laws First (2 ^ (n * m .width)) (nets-counted (n * m .width)) (product m) cap h rows r (word-factors m n) factors-first card [] tt tt
 
-  more-bits : (cap cap′ rows rows′ : ℕ) → cap ≤ cap′ → rows ≤ rows′ → (card : List (Term (List ℕ))) (us : List (Term NetSet))
+  pub more-bits : (cap cap′ rows rows′ : ℕ) → cap ≤ cap′ → rows ≤ rows′ → (card : List (Term (List ℕ))) (us : List (Term NetSet))
       → bits-working m n cap rows card ≡ finished us → bits-working m n cap′ rows′ card ≡ finished us
   more-bits cap cap′ rows rows′ h r card us e = more-rows net-model (List ℕ) (product m) cap cap′ rows rows′ h r (word-factors m n) card [] us e
 
-  kept-bits : (cap rows : ℕ) (card : List (Term (List ℕ))) (us : List (Term NetSet)) → bits-working m n cap rows card ≡ finished us → Monos First us
+  -- what a working ends in falls, and holds bits of the n words alone
+  pub kept-bits : (cap rows : ℕ) (card : List (Term (List ℕ))) (us : List (Term NetSet)) → bits-working m n cap rows card ≡ finished us → Falling net-model us × Monos (Within (n * m .width)) us
   kept-bits cap rows card us e =
       let N = 2 ^ (n * m .width) in
       let x = enough-bits (cap + N) (rows + N) (omega arith) (omega arith) card in
       let y = more-bits cap (cap + N) rows (rows + N) (omega arith) (omega arith) card us e in
-      subst (Monos First) (finished-is (x .0) us (sym (x .1) ∙ y)) (x .3)
+      let same : x .0 ≡ us = finished-is (x .0) us (sym (x .1) ∙ y) in
+      (subst (Falling net-model) same (x .2), monos-all us (subst (Monos First) same (x .3)))
     where
       finished-is : (a b : List (Term NetSet)) → _≡_ {A = Converted NetSet} (finished a) (finished b) → a ≡ b
       finished-is a b p = cc
 
-  never-bits : {B : Type 0} (us : List (Term NetSet)) (t : FullTable) → _≡_ {A = Converted NetSet} (finished us) (stopped t) → B
-  never-bits us t p = absurd (let z : _≡_ {A = ℕ} 0 1 = cc in omega arith)
-
-  monos-all : (ts : List (Term NetSet)) → Monos First ts → Monos (Within (n * m .width)) ts
-  monos-all [] u = tt
-  monos-all (t ∷ ts) u = (first-within (n * m .width) (t .mono) (u .0), monos-all ts (u .1))
-
-  -- the whole answer, from that of the conversion
-  pub bits-ok : (cap count : ℕ) (card : List (Term (List ℕ))) (rows : List (Term NetSet)) (t : ℕ) → Answered net-model (product m) cap count (word-factors m n) card rows (Ok t)
-      → BitsAnswered m n cap count card rows (Ok t)
-  bits-ok cap count card rows t a = record {
-    worked = a;
-    inputs = monos-all (take t rows) (kept-bits cap count card (take t rows) (a .0));
-    enough = λ _ _. refl;
-    more = λ cap′ count′ h r form e. more-bits cap cap′ count count′ h r card form e;
-  }
-
-  pub bits-err : (cap count : ℕ) (card : List (Term (List ℕ))) (rows : List (Term NetSet)) (t : FullTable) → Answered net-model (product m) cap count (word-factors m n) card rows (Err t)
-      → BitsAnswered m n cap count card rows (Err BitTableFull)
-  bits-err cap count card rows t a = record {
-    worked = (t, a .0, refl, a .1);
-    inputs = tt;
-    enough = λ h r. let x = enough-bits cap count h r card in never-bits (x .0) t (sym (x .1) ∙ a .0);
-    more = λ cap′ count′ h r form e. more-bits cap cap′ count count′ h r card form e;
-  }
+      monos-all : (ts : List (Term NetSet)) → Monos First ts → Monos (Within (n * m .width)) ts
+      monos-all [] u = tt
+      monos-all (t ∷ ts) u = (first-within (n * m .width) (t .mono) (u .0), monos-all ts (u .1))

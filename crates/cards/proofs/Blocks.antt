@@ -4,7 +4,7 @@ use mathlib.Core.Bool.{Bool, true, false, cond, _&&_}
 use mathlib.Core.List.{List, [], _∷_, _++_}
 use mathlib.Core.Logic.{⊎-elim}
 use Prim.Native.Nat.{ℕ, zero, suc, _+_, _-_, _*_, _/_, _%_, _^_, _<_, _≤_}
-use native.Mathlib.Nat.{mod-lt, div-lt-iff-lt-mul, mul-le-mul, mul-le-mul-right}
+use native.Mathlib.Nat.{mod-lt, mod-eq-of-lt, div-eq-of-lt, div-lt-iff-lt-mul, mul-le-mul, mul-le-mul-right}
 use native.Mathlib.Numerals.{add-one}
 use native.Mathlib.Omega.{arith}
 use lib.Arith.{digits-div, digits-mod, digits-lt}
@@ -25,7 +25,9 @@ use Rattle.terms.specs.Terms.{Monos}
 use Rattle.terms.specs.declared.Term.{Term}
 use Rattle.terms.specs.declared.nets.NetSet.{NetSet}
 use Rattle.convert.specs.Convert.{block, chosen, Answered}
-use Rattle.terms.specs.Sets.{holds}
+use Rattle.terms.specs.Sets.{holds, SetOf}
+use Rattle.terms.proofs.Changes.{single}
+use Rattle.terms.proofs.Changes as terms
 use Rattle.convert.specs.Places.{row-held}
 use Rattle.convert.specs.declared.FullTable.{FullTable}
 use Rattle.cards.specs.Sums.{listed, bit-term, bit-sum, card-kind, BitSums, one-net, word-term, word-sum, WordSums}
@@ -67,6 +69,16 @@ pub net-own : (p : ℕ) → p < 64 → net-model .own (one-net p) ≡ true
 net-own p h =
     and-from (leb (2 ^ p) (2 ^ 64 - 1)) _ (le-leb (2 ^ p) (2 ^ 64 - 1) (le-ones 64 (pow-lt h)))
     (and-from (leb 0 (2 ^ 64 - 1)) _ (zero-leb (2 ^ 64 - 1)) (and-from (leb 0 (2 ^ 64 - 1)) _ (zero-leb (2 ^ 64 - 1)) (and-from (leb 0 (2 ^ 64 - 1)) true (zero-leb (2 ^ 64 - 1)) refl)))
+
+-- the one word that is not 0
+single-is : (p : ℕ) → p < 64 → single p ≡ one-net p
+single-is p h =
+    let word : 1 * 2 ^ (p % 64) % 2 ^ 64 ≡ 2 ^ p = ap (λ (i : ℕ). 1 * 2 ^ i % 2 ^ 64) (mod-eq-of-lt h) ∙ (let l = pow-lt {i = p} {j = 64} h in let e : 1 * 2 ^ p % 2 ^ 64 ≡ 2 ^ p = omega arith in e) in
+    ap₂ (λ (i w : ℕ). record { words = set (0 ∷ (0 ∷ (0 ∷ (0 ∷ [])))) i w }) (div-eq-of-lt h) word
+
+-- it holds that net alone
+pub one-member : (p : ℕ) → p < 64 → SetOf (p ∷ []) (one-net p)
+one-member p h = subst (SetOf (p ∷ [])) (single-is p h) (terms.one-net p (omega arith))
 
 -- ---- places
 pub net-below : (w k i : ℕ) → w < 3 → k ≤ 8 → i < k → w * k + i < 64

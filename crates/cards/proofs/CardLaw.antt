@@ -119,15 +119,15 @@ bits-within k held h i (suc n) l =
     (λ _. bits-within k held h (suc i) n (omega arith))
 
 -- ---- lists of terms as the mathematics has them
-value-plain : (m : FieldData) (ts : List (Term (List ℕ))) (xs : List ℕ) → card-value m ts xs ≡ valueAt m (plain ts) xs
+pub value-plain : (m : FieldData) (ts : List (Term (List ℕ))) (xs : List ℕ) → card-value m ts xs ≡ valueAt m (plain ts) xs
 value-plain m [] xs = refl
 value-plain m (t ∷ ts) xs = ap (bitXor (m .times (t .code) (rowPower m (t .mono) xs))) (value-plain m ts xs)
 
-held-plain : {S : Type 0} (m : FieldData) (on : S → Bool) (ss : List (Term S)) → value (λ c s. cond (on s) c 0) ss ≡ heldOf (codeOps m) on (plain ss)
+pub held-plain : {S : Type 0} (m : FieldData) (on : S → Bool) (ss : List (Term S)) → value (λ c s. cond (on s) c 0) ss ≡ heldOf (codeOps m) on (plain ss)
 held-plain m on [] = refl
 held-plain m on (s ∷ ss) = ap (bitXor (cond (on (s .mono)) (s .code) 0)) (held-plain m on ss)
 
-codes-plain : {S : Type 0} (P : ℕ → Type 0) (ts : List (Term S)) → Codes P ts → A.All (λ t. P (t .code)) (plain ts)
+pub codes-plain : {S : Type 0} (P : ℕ → Type 0) (ts : List (Term S)) → Codes P ts → A.All (λ t. P (t .code)) (plain ts)
 codes-plain P [] u = tt
 codes-plain P (t ∷ ts) u = (u .0, codes-plain P ts (u .1))
 
@@ -162,7 +162,7 @@ inside-row q (l ∷ ls) (e ∷ r) a h =
     let v : l < q = a .0 in
     (omega arith, inside-row q ls r (a .1) (p .1))
 
-own-row : (m : FieldData) (n : ℕ) (r : List ℕ) → card-kind m n .own r ≡ true → Row (size m) 3 r
+pub own-row : (m : FieldData) (n : ℕ) (r : List ℕ) → card-kind m n .own r ≡ true → Row (size m) 3 r
 own-row m n r h =
     let q = size m in
     let z : 0 < q = pow-pos (m .width) in
@@ -211,7 +211,7 @@ value-cut : (m : FieldData) (ls : List ℕ) (ts : List (Term (List ℕ))) (xs : 
 value-cut m ls [] xs u = refl
 value-cut m ls (t ∷ ts) xs u = ap₂ (λ a b. bitXor (m .times (t .code) a) b) (cut-power m ls (t .mono) xs (u .0)) (value-cut m ls ts xs (u .1))
 
-card-rows : (m : FieldData) (n : ℕ) (ts : List (Term (List ℕ))) → Codes (λ c. c < size m) ts → Nonzero ts → Monos (λ r. card-kind m n .own r ≡ true) ts → A.All (CardRow m 3) (plain ts)
+pub card-rows : (m : FieldData) (n : ℕ) (ts : List (Term (List ℕ))) → Codes (λ c. c < size m) ts → Nonzero ts → Monos (λ r. card-kind m n .own r ≡ true) ts → A.All (CardRow m 3) (plain ts)
 card-rows m n [] c z u = tt
 card-rows m n (t ∷ ts) c z u = ((c .0, (λ e. let p : 0 < t .code = z .0 in omega arith), own-row m n (t .mono) (u .0)), card-rows m n ts (c .1) (z .1) (u .1))
 

@@ -12,11 +12,16 @@ use Rattle.algebra.specs.Terms as A
 use Rattle.algebra.specs.Words.{Row}
 use Rattle.algebra.proofs.Squares.{power-below}
 use Rattle.algebra.proofs.Total.{product-below, product-comm, product-assoc, product-dist, product-one, product-inverse}
+use Rattle.terms.specs.declared.Term.{Term}
 use Rattle.convert.proofs.Plain.{plain}
 use Rattle.cards.specs.Sums.{bit-sum}
 
 abbrev pub total : FieldData → FieldData
 total m = record { width = m .width; one = m .one; times = product m }
+
+pub plain-push : {M : Type 0} (ss : List (Term M)) (t : Term M) → plain (ss ++ (t ∷ [])) ≡ plain ss ++ (record { code = t .code; key = t .mono } ∷ [])
+plain-push [] t = refl
+plain-push {M} (s ∷ ss) t = ap (λ (z : List (A.Term ℕ M)). record { code = s .code; key = s .mono } ∷ z) (plain-push ss t)
 
 module _ (m : FieldData) (l : FieldLaws m) where
   pub total-laws : FieldLaws (total m)
@@ -75,10 +80,6 @@ module _ (m : FieldData) (l : FieldLaws m) where
   value-same [] xs n h u = refl
   value-same (t ∷ ts) xs n h u =
       ap₂ bitXor (ap (product m (t .code)) (row-same (t .key) xs n u) ∙ at-codes (t .code) (rowPower m (t .key) xs) (h .0) (row-below (t .key) xs n u)) (value-same ts xs n (h .1) u)
-
-  plain-push : (ss : List (Rattle.terms.specs.declared.Term.Term (List ℕ))) (t : Rattle.terms.specs.declared.Term.Term (List ℕ)) → plain (ss ++ (t ∷ [])) ≡ plain ss ++ (record { code = t .code; key = t .mono } ∷ [])
-  plain-push [] t = refl
-  plain-push (s ∷ ss) t = ap (λ (z : List (A.Term ℕ (List ℕ))). record { code = s .code; key = s .mono } ∷ z) (plain-push ss t)
 
   pub sum-is : (w δ n : ℕ) → δ < size m → plain (bit-sum m w δ n) ≡ bitFactor (codeOps (total m)) 3 w δ n
   sum-is w δ zero h = refl

@@ -18,7 +18,9 @@ use Rattle.terms.specs.declared.nets.NetSet.{NetSet}
 use Rattle.convert.specs.Convert.{chosen, Converted, finished, stopped, converting}
 use Rattle.convert.specs.Places.{row-held}
 use Rattle.convert.specs.declared.FullTable.{FullTable}
+use Rattle.cards.specs.Law.{Polynomial, CardOf, BitForm, FormOf}
 use Rattle.cards.specs.Sums.{word-sum}
+use Rattle.cards.specs.Working.{CardAnswered}
 
 -- the factors of an exponent row of n words: for each word w, rising, and each one bit s of its exponent, rising, the word to the power 2^s
 abbrev pub word-factors : FieldData → ℕ → List ℕ → List (List (Term NetSet))
@@ -38,12 +40,33 @@ abbrev pub InputBits : FieldData → ℕ → List (Term NetSet) → Result ℕ F
 InputBits m n rows (Ok t) = Monos (Within (n * m .width)) (take t rows)
 InputBits m n rows (Err e) = Unit {0}
 
+-- where a number is answered, the result table holds the bit form
+abbrev pub FormMade : FieldData → ℕ → List (Term (List ℕ)) → List (Term NetSet) → Result ℕ Fault → Type 0
+FormMade m n card rows (Ok t) = FormOf m n card (take t rows)
+FormMade m n card rows (Err e) = Unit {0}
+
+-- the conversions undo each other
+pub record Inverse (m : FieldData) (n : ℕ) (card : List (Term (List ℕ))) (form : List (Term NetSet)) : Type 0 where
+  -- the bit form turned to words is the polynomial again, whatever tables that call has
+  pub card-again : (cap count : ℕ) (rows : List (Term (List ℕ))) (t : ℕ) → CardAnswered m n cap count form rows (Ok t) → take t rows ≡ card
+  -- the card of a bit form turned to bits is that bit form again
+  pub form-again : (bits : List (Term NetSet)) → BitForm m n bits → CardOf m n bits card → form ≡ bits
+
+-- where a number is answered, the result table holds what undoes the other conversion
+abbrev pub Undoes : FieldData → ℕ → List (Term (List ℕ)) → List (Term NetSet) → Result ℕ Fault → Type 0
+Undoes m n card rows (Ok t) = Inverse m n card (take t rows)
+Undoes m n card rows (Err e) = Unit {0}
+
 -- the answer to a call with product tables of `cap` rows and a result table of `count` rows, which are `rows` then
 pub record BitsAnswered (m : FieldData) (n cap count : ℕ) (card : List (Term (List ℕ))) (rows : List (Term NetSet)) (answer : Result ℕ Fault) : Type 0 where
   -- it is that of the working
   pub worked : BitsEnd (bits-working m n cap count card) count rows answer
   -- the sets hold bits of the n words alone
   pub inputs : InputBits m n rows answer
+  -- what a polynomial in n words ends in is its bit form
+  pub made : Polynomial m n card → FormMade m n card rows answer
+  -- which turned to words is the polynomial again
+  pub inverse : Polynomial m n card → Undoes m n card rows answer
   -- 2^(n·k) rows suffice in each table
   pub enough : 2 ^ (n * m .width) ≤ cap → 2 ^ (n * m .width) ≤ count → isOk answer ≡ true
   -- a working that ends, ends the same with more rows

@@ -5,10 +5,11 @@ use mathlib.Core.List.{List}
 use Prim.Native.Nat.{ℕ, _*_, _<_}
 use Rattle.algebra.specs.Codes.{rowPower}
 use Rattle.algebra.specs.Field.{FieldData, size}
+use Rattle.terms.specs.Nets.{net-model}
 use Rattle.terms.specs.Terms.{Falling, Nonzero, Codes, Monos, value}
 use Rattle.terms.specs.declared.Term.{Term}
 use Rattle.terms.specs.declared.nets.NetSet.{NetSet}
-use Rattle.terms.specs.Sets.{Within}
+use Rattle.terms.specs.Sets.{Own, Within}
 use Rattle.terms.specs.Values.{value-at, bit-at}
 use Rattle.cards.specs.Sums.{card-kind}
 
@@ -37,3 +38,16 @@ pub record CardOf (m : FieldData) (n : ℕ) (bits : List (Term NetSet)) (card : 
   pub polynomial : Polynomial m n card
   pub values : (xs : List ℕ) → IsInput m n xs → card-value m card xs ≡ value-at (bit-at (m .width) xs) bits
   pub only : (p : List (Term (List ℕ))) → Polynomial m n p → ((xs : List ℕ) → IsInput m n xs → card-value m p xs ≡ value-at (bit-at (m .width) xs) bits) → p ≡ card
+
+-- a bit form in n words (the field's algebraic normal form, with codes for coefficients): nonzero codes below q, sets of the bits of the words, in falling order of the sets
+pub record BitForm (m : FieldData) (n : ℕ) (ts : List (Term NetSet)) : Type 0 where
+  pub terms : BitTerms m n ts
+  pub nonzero : Nonzero ts
+  pub sets : Monos Own ts
+  pub falling : Falling net-model ts
+
+-- the bit form of a polynomial has its value at every input, and no other bit form has
+pub record FormOf (m : FieldData) (n : ℕ) (card : List (Term (List ℕ))) (form : List (Term NetSet)) : Type 0 where
+  pub bit-form : BitForm m n form
+  pub values : (xs : List ℕ) → IsInput m n xs → value-at (bit-at (m .width) xs) form ≡ card-value m card xs
+  pub only : (p : List (Term NetSet)) → BitForm m n p → ((xs : List ℕ) → IsInput m n xs → value-at (bit-at (m .width) xs) p ≡ card-value m card xs) → p ≡ form

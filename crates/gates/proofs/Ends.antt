@@ -29,7 +29,8 @@ use Rattle.terms.specs.Additions.{Ended, done, full, adding}
 use Rattle.gates.specs.Reductions.{OutTerms, Put, TailTerms, Reduces, empty, bits, stops, step, Worked, goes}
 use Rattle.terms.specs.Values.{every, set-on, value-at, bit-at}
 use Rattle.gates.specs.Forms.{Terms-of, Keeps, Right-end, Value-at-words}
-use Rattle.gates.proofs.Lit.{every-same, on-among}
+use Rattle.terms.proofs.Values.{value-at-agree}
+use Rattle.gates.proofs.Lit.{on-among}
 use Rattle.terms.proofs.Additions.{Terms-all, adding-keeps}
 use Rattle.gates.proofs.Kept.{All-below, value-at-adding, value-at-step}
 
@@ -151,18 +152,6 @@ module _ (v : ℕ → Bool) where
       ∙ place-value (v x) i (word (map v xs))
 
 -- ---- the end
-agree-at : (a x y : Bool) → (a ≡ true → x ≡ y) → (not a || x) ≡ (not a || y)
-agree-at true x y f = f refl
-agree-at false x y f = refl
-
--- only the bits of its nets count
-pub set-on-agree : (v w : ℕ → Bool) (n : ℕ) → ((i : ℕ) → i < n → v i ≡ w i) → (s : NetSet) → Within n s → set-on v s ≡ set-on w s
-set-on-agree v w n a s h = every-same 256 (λ g. not (holds s g) || v g) (λ g. not (holds s g) || w g) (λ g. agree-at (holds s g) (v g) (w g) (λ e. a g (h g e)))
-
-pub value-at-agree : (v w : ℕ → Bool) (n : ℕ) → ((i : ℕ) → i < n → v i ≡ w i) → (ts : List (Term NetSet)) → Monos (Within n) ts → value-at v ts ≡ value-at w ts
-value-at-agree v w n a [] h = refl
-value-at-agree v w n a (t ∷ ts) h = ap₂ (λ l x. bitXor (cond l (t .code) 0) x) (set-on-agree v w n a (t .mono) (h .0)) (value-at-agree v w n a ts (h .1))
-
 module _ (N : Net-laws) where
   -- a lesser set has no greater nets
   pub less-within : (n : ℕ) (s t : NetSet) → Own s → Own t → net-model .less s t ≡ true → Within n t → Within n s

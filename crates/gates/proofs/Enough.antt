@@ -28,6 +28,7 @@ use Rattle.gates.proofs.Unions.{or-assoc, joined-one}
 use Rattle.netlist.proofs.Formed.{driven-reads, few-nets}
 use Rattle.gates.proofs.Ends.{tail-below, sets-more}
 use Rattle.terms.proofs.Additions.{adding-on, adding-more}
+use Rattle.terms.proofs.Sole.{sums}
 use Rattle.gates.proofs.Once.{reduces-more}
 use Rattle.gates.proofs.Falls.{height, joins-tail, turn-terms, turn-falls}
 use Rattle.gates.proofs.Outs.{out-terms, starts, goes-on, stops-there}
@@ -68,16 +69,12 @@ find-top s (suc n) a =
 top-of : (s : NetSet) → Own s → ((g : ℕ) × Top s g) ⊎ ((h : ℕ) → holds s h ≡ false)
 top-of s o = find-top s 256 (λ h l. ⊎-elim (λ e. absurd (let m = laws-of-sets .few s o h e in omega arith)) (λ e. e) (cases-bool (holds s h)))
 
--- ---- unlimited additions
-abbrev pub sums : List (Term NetSet) → List (Term NetSet) → List (Term NetSet)
-sums [] ts = ts
-sums (t ∷ adds) ts = sums adds (added net-model (t .code) (t .mono) ts)
-
-abbrev pub wanted : List (Term NetSet) → List (Term NetSet) → ℕ
+-- ---- additions with rows enough
+abbrev wanted : List (Term NetSet) → List (Term NetSet) → ℕ
 wanted [] ts = 0
 wanted (t ∷ adds) ts = length (added net-model (t .code) (t .mono) ts) + wanted adds (added net-model (t .code) (t .mono) ts)
 
-pub adding-all : (cap : ℕ) (adds ts : List (Term NetSet)) → wanted adds ts ≤ cap → adding net-model cap adds ts ≡ done (sums adds ts)
+adding-all : (cap : ℕ) (adds ts : List (Term NetSet)) → wanted adds ts ≤ cap → adding net-model cap adds ts ≡ done (sums adds ts)
 adding-all cap [] ts l = refl
 adding-all cap (t ∷ adds) ts l =
     let next = added net-model (t .code) (t .mono) ts in

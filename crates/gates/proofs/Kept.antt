@@ -3,14 +3,12 @@ use mathlib.Core.Path.{_≡_, refl, sym, ap, ap₂, _∙_}
 use mathlib.Core.Bool.{Bool, true, false, _||_, _&&_, not, cond}
 use mathlib.Core.List.{List, [], _∷_}
 use Prim.Native.Nat.{ℕ, _-_, _<_}
-use lib.Bits.{bitXor, xor-zero-l, xor-comm, xor-assoc}
+use lib.Bits.{bitXor, xor-zero-l}
 use lib.Dec.{eqb}
 use Rattle.terms.specs.Terms.{term, added, value, Codes}
 use Rattle.terms.specs.Nets.{net-model}
 use Rattle.terms.specs.declared.Term.{Term}
 use Rattle.terms.specs.declared.nets.NetSet.{NetSet}
-use Rattle.terms.proofs.Laws.{value-added}
-use Rattle.terms.proofs.BothKinds.{net-laws}
 use Rattle.netlist.specs.Circuits.{Below}
 use Rattle.netlist.specs.Meaning.{tail, parity}
 use Rattle.netlist.specs.Meaning.{all-on}
@@ -19,11 +17,8 @@ use Rattle.terms.specs.Additions.{done, adding}
 use Rattle.gates.specs.Reductions.{Put, TailTerms}
 use Rattle.terms.specs.Values.{every, set-on, value-at}
 use Rattle.terms.proofs.Additions.{done-same, adding-first}
-use Rattle.gates.proofs.Lit.{on-or, on-among, on-split, cond-xor, xor-cond}
-
-any-codes : {M : Type 0} (ts : List (Term M)) → Codes (λ _. Unit {0}) ts
-any-codes [] = tt
-any-codes (t ∷ ts) = (tt, any-codes ts)
+use Rattle.terms.proofs.Values.{on-or, on-split, xor-turn, value-at-added}
+use Rattle.gates.proofs.Lit.{on-among, xor-cond}
 
 -- all sets of the list lie below n
 abbrev pub All-below : ℕ → List (List ℕ) → Type 0
@@ -31,18 +26,12 @@ All-below n [] = Unit {0}
 All-below n (xs ∷ us) = Below n xs × All-below n us
 
 -- ---- the value of terms
-pub xor-turn : (a b c : ℕ) → bitXor a (bitXor b c) ≡ bitXor (bitXor b a) c
-xor-turn a b c = sym (xor-assoc a b c) ∙ ap (λ x. bitXor x c) (xor-comm a b)
-
 module _ (v : ℕ → Bool) where
-  pub value-at-added : (c : ℕ) (m : NetSet) (ts : List (Term NetSet)) → value-at v (added net-model c m ts) ≡ bitXor (cond (set-on v m) c 0) (value-at v ts)
-  value-at-added c m ts = value-added (λ _. Unit {0}) (λ d s. cond (set-on v s) d 0) (λ a b s _ _. cond-xor (set-on v s) a b) net-model net-laws c m tt ts (any-codes ts)
-
   pub value-at-adding : (cap : ℕ) (adds ts us : List (Term NetSet)) → adding net-model cap adds ts ≡ done us → value-at v us ≡ bitXor (value-at v adds) (value-at v ts)
   value-at-adding cap [] ts us e = ap (value-at v) (sym (done-same ts us e)) ∙ sym (xor-zero-l (value-at v ts))
   value-at-adding cap (t ∷ adds) ts us e =
       value-at-adding cap adds (added net-model (t .code) (t .mono) ts) us (adding-first net-model cap t adds ts us e .1)
-      ∙ ap (bitXor (value-at v adds)) (value-at-added (t .code) (t .mono) ts)
+      ∙ ap (bitXor (value-at v adds)) (value-at-added v (t .code) (t .mono) ts)
       ∙ xor-turn (value-at v adds) (cond (set-on v (t .mono)) (t .code) 0) (value-at v ts)
 
   -- s without g

@@ -23,7 +23,8 @@ use Rattle.netlist.specs.Circuits.{Circuit, WellFormed, inputs}
 use Rattle.netlist.specs.Meaning.{output-at}
 use Rattle.gates.specs.Answers.{Found}
 use Rattle.gates.specs.Forms.{Bit-form}
-use Rattle.gates.proofs.Ends.{value-at-agree, value-at-words}
+use Rattle.terms.proofs.Values.{value-at-agree}
+use Rattle.gates.proofs.Ends.{value-at-words}
 use Rattle.cards.specs.Law.{IsInput, BitTerms, CardOf}
 use Rattle.cards.specs.Working.{word-count, CardAnswered}
 use Rattle.job.specs.Answers.{Carded, CardOfCircuit, Refused, words}

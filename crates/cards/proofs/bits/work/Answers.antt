@@ -2,7 +2,7 @@ use mathlib.Core.Path.{_≡_, sym, subst}
 use Prim.Native.Nat.{ℕ, _*_, _≤_, min}
 use lib.ListN.{length}
 use Rattle.std.specs.declared.result.Result.the-variants.{Ok, Err}
-use Rattle.cards.proofs.BitRows.{bits-ok, bits-err}
+use Rattle.cards.proofs.FormLaw.{bits-ok, bits-err}
 use Rattle.cards.proofs.Blocks.{words-whole, bits-answered-by}
 use Rattle.cards.proofs.bits.work.Needs as need
 
@@ -28,7 +28,7 @@ returns-in-Ok g c =
     record {
       first = x .first;
       second = x .second;
-      bits = bits-ok m l (c .args .n) cap count (c .args .card .now) rows t
+      bits = bits-ok m l (c .args .n) (c .pre) cap count (c .args .card .now) rows t
           (bits-answered-by m l (c .args .n) (c .word-sums-sums .result) (c .pre) (c .word-sums-sums .ensures) (c .width-width .result) cap count (c .args .card .now) rows (Ok t) (c .width-width .ensures) (x .worked));
     }
 
@@ -44,6 +44,6 @@ returns-in-Err g c =
     record {
       first = x .first;
       second = x .second;
-      bits = bits-err m l (c .args .n) cap count (c .args .card .now) rows t
+      bits = bits-err m l (c .args .n) (c .pre) cap count (c .args .card .now) rows t
           (bits-answered-by m l (c .args .n) (c .word-sums-sums .result) (c .pre) (c .word-sums-sums .ensures) (c .width-width .result) cap count (c .args .card .now) rows (Err t) (c .width-width .ensures) (x .worked));
     }
