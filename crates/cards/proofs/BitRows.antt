@@ -4,19 +4,19 @@ use mathlib.Core.Bool.{Bool, true, false, cond, _&&_}
 use mathlib.Core.List.{List, [], _∷_, reverse}
 use mathlib.Core.Logic.{⊎-elim}
 use Prim.Native.Nat.{ℕ, zero, suc, _+_, _-_, _*_, _/_, _%_, _^_, _<_, _≤_}
-use native.Mathlib.Nat.{mod-lt, div-lt-iff-lt-mul, div-eq-of-lt, zero-div}
+use native.Mathlib.Nat.{div-lt-iff-lt-mul, div-eq-of-lt, zero-div}
 use native.Mathlib.Omega.{arith}
 use lib.Arith.{digits-lt}
 use lib.Bits.{bitOr, or-lt}
 use lib.Dec.{leb, ltb, eqb}
 use lib.ListN.{getD}
 use lib.Pow.{pow-lt, pow-mono, pow-pos, le-ones}
-use Rattle.std.proofs.shelf.Tests.{le-leb, leb-true, ltb-true, ltb-false, lt-ltb, le-ltb, and-parts, and-from, cond-true, cond-false, cond-both, cases-bool, eqb-true, true≢false}
+use Rattle.std.proofs.shelf.Tests.{le-leb, leb-true, ltb-true, and-parts, and-from, cond-false, cond-both, cases-bool, eqb-true, true≢false}
 use Rattle.algebra.specs.Field.{FieldData, FieldLaws, product}
 use Rattle.algebra.specs.Terms as A
 use Rattle.algebra.proofs.Reduce.{lt-or-le}
 use Rattle.terms.specs.Nets.{net-model, full-words}
-use Rattle.terms.specs.Sets.{holds, Within}
+use Rattle.terms.specs.Sets.{Within}
 use Rattle.terms.specs.Numbers.{lex, inside, paired}
 use Rattle.terms.specs.Terms.{Monos, Falling}
 use Rattle.terms.specs.declared.Term.{Term}
@@ -28,7 +28,7 @@ use Rattle.convert.proofs.Enough.{Counted, converting-ends}
 use Rattle.convert.proofs.More.{more-rows}
 use Rattle.convert.proofs.Steps.{monos-append}
 use Rattle.cards.specs.BitsWorking.{word-factors, bits-working}
-use Rattle.cards.specs.Sums.{one-net, word-sum}
+use Rattle.cards.specs.Sums.{word-sum}
 use Rattle.cards.proofs.CardLaw.{chosen-all}
 
 abbrev low-words : ℕ → List ℕ → Bool

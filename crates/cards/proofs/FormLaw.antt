@@ -1,19 +1,18 @@
 -- What a working from words to bits ends in is the bit form. Assumes nothing.
 use mathlib.Core.Path.{_≡_, refl, sym, ap, ap₂, subst, subst₂, _∙_}
 use mathlib.Core.Bool.{Bool, true, false, cond, _&&_, _||_, not}
-use mathlib.Core.Logic.{_⊎_, inl, inr, ⊎-elim}
+use mathlib.Core.Logic.{inl, inr}
 use mathlib.Core.List.{List, [], _∷_, _++_}
 use Prim.Native.Nat.{ℕ, zero, suc, _+_, _-_, _*_, _/_, _%_, _^_, _<_, _≤_}
 use native.Mathlib.Nat.{mod-lt, mod-add-div', add-comm, div-lt-iff-lt-mul, suc-mul, zero-mul}
 use native.Mathlib.Omega.{arith}
 use lib.Arith.{digits-div, digits-mod}
-use lib.Bits.{bitXor}
 use lib.Dec.{ltb, leb, eqb}
 use lib.ListN.{length, getD, take}
 use lib.Pow.{pow-lt, le-ones, shr-shr}
 use Rattle.std.proofs.shelf.Tests.{cond-true, cond-false, le-ltb, lt-ltb, leb-true, le-leb, and-parts, and-from, true≢false}
 use Rattle.std.specs.declared.result.Result.the-variants.{Ok, Err}
-use Rattle.algebra.specs.Codes.{codeOps, bitOf, power, CardRow, Input}
+use Rattle.algebra.specs.Codes.{codeOps, bitOf, Input}
 use Rattle.algebra.specs.Field.{FieldData, FieldLaws, size, product}
 use Rattle.algebra.specs.Ops.{Ops, oneBits, wordFactor, wordFactors, rowFactors}
 use Rattle.algebra.specs.Table.{Order, put, putAll}
@@ -33,9 +32,9 @@ use Rattle.terms.specs.Values.{every, set-on, value-at, bit-at}
 use Rattle.terms.specs.declared.Term.{Term}
 use Rattle.terms.specs.declared.nets.NetSet.{NetSet}
 use Rattle.terms.proofs.BothKinds.{net-laws, inside-length}
-use Rattle.terms.proofs.Laws.{Stands, lower, higher, level, stands}
+use Rattle.terms.proofs.Laws.{lower, higher, level, stands}
 use Rattle.terms.proofs.Members.{laws-of-sets}
-use Rattle.terms.proofs.Sole.{Form, same-forms}
+use Rattle.terms.proofs.Sole.{same-forms}
 use Rattle.terms.proofs.Values.{every-all, every-at, on-or, value-at-agree}
 use Rattle.convert.specs.Convert.{chosen, Converted, finished, stopped, Answered}
 use Rattle.convert.specs.Places.{row-held}

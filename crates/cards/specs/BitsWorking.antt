@@ -52,7 +52,7 @@ pub record Inverse (m : FieldData) (n : ℕ) (card : List (Term (List ℕ))) (fo
   -- the card of a bit form turned to bits is that bit form again
   pub form-again : (bits : List (Term NetSet)) → BitForm m n bits → CardOf m n bits card → form ≡ bits
 
--- where a number is answered, the result table holds what undoes the other conversion
+-- where a number is answered, the result table holds a bit form that the other conversion takes back
 abbrev pub Undoes : FieldData → ℕ → List (Term (List ℕ)) → List (Term NetSet) → Result ℕ Fault → Type 0
 Undoes m n card rows (Ok t) = Inverse m n card (take t rows)
 Undoes m n card rows (Err e) = Unit {0}
@@ -65,7 +65,7 @@ pub record BitsAnswered (m : FieldData) (n cap count : ℕ) (card : List (Term (
   pub inputs : InputBits m n rows answer
   -- what a polynomial in n words ends in is its bit form
   pub made : Polynomial m n card → FormMade m n card rows answer
-  -- which turned to words is the polynomial again
+  -- and the conversion back gives the polynomial again
   pub inverse : Polynomial m n card → Undoes m n card rows answer
   -- 2^(n·k) rows suffice in each table
   pub enough : 2 ^ (n * m .width) ≤ cap → 2 ^ (n * m .width) ≤ count → isOk answer ≡ true

@@ -1,4 +1,4 @@
--- What a card is: the one polynomial in the words with the bit form's value at every input. Assumes nothing.
+-- What a card is: the one polynomial in the words with the bit form's value at every input; and what the bit form of a polynomial is. Assumes nothing.
 use mathlib.Core.Path.{_≡_}
 use mathlib.Core.Bool.{true}
 use mathlib.Core.List.{List}
@@ -39,7 +39,7 @@ pub record CardOf (m : FieldData) (n : ℕ) (bits : List (Term NetSet)) (card : 
   pub values : (xs : List ℕ) → IsInput m n xs → card-value m card xs ≡ value-at (bit-at (m .width) xs) bits
   pub only : (p : List (Term (List ℕ))) → Polynomial m n p → ((xs : List ℕ) → IsInput m n xs → card-value m p xs ≡ value-at (bit-at (m .width) xs) bits) → p ≡ card
 
--- a bit form in n words (the field's algebraic normal form, with codes for coefficients): nonzero codes below q, sets of the bits of the words, in falling order of the sets
+-- a bit form in n words (an algebraic normal form with codes as coefficients): nonzero codes below q, sets of the bits of the words, in falling order of the sets
 pub record BitForm (m : FieldData) (n : ℕ) (ts : List (Term NetSet)) : Type 0 where
   pub terms : BitTerms m n ts
   pub nonzero : Nonzero ts

@@ -5,7 +5,7 @@ use mathlib.Core.List.{List, [], _∷_}
 use Prim.Native.Nat.{ℕ, _-_, _<_}
 use lib.Bits.{bitXor, xor-zero-l}
 use lib.Dec.{eqb}
-use Rattle.terms.specs.Terms.{term, added, value, Codes}
+use Rattle.terms.specs.Terms.{added}
 use Rattle.terms.specs.Nets.{net-model}
 use Rattle.terms.specs.declared.Term.{Term}
 use Rattle.terms.specs.declared.nets.NetSet.{NetSet}
