@@ -8,8 +8,9 @@ use native.Mathlib.Nat.{mod-lt, mod-add-div', add-comm, div-lt-iff-lt-mul, suc-m
 use native.Mathlib.Omega.{arith}
 use lib.Arith.{digits-div, digits-mod}
 use lib.Dec.{ltb, leb, eqb}
-use lib.ListN.{length, getD, take}
+use lib.ListN.{length, getD, take, replicate}
 use lib.Pow.{pow-lt, le-ones, shr-shr}
+use Rattle.std.proofs.shelf.Lists.{length-take-le}
 use Rattle.std.proofs.shelf.Tests.{cond-true, cond-false, le-ltb, lt-ltb, leb-true, le-leb, and-parts, and-from, true≢false}
 use Rattle.std.specs.declared.result.Result.the-variants.{Ok, Err}
 use Rattle.algebra.specs.Codes.{codeOps, bitOf, Input}
@@ -21,13 +22,14 @@ use Rattle.algebra.specs.Theorems.{codeXor, formOf, IsFormOf, ReadsInput}
 use Rattle.algebra.specs.Working.{tableProduct, tableConverted}
 use Rattle.algebra.proofs.Digits.{bitB, one-bit, xorSum, place, packed-lt, packed-bit}
 use Rattle.algebra.proofs.Worked.{form-worked}
-use Rattle.fault.specs.declared.Fault.the-variants.{BitTableFull}
+use Rattle.fault.specs.declared.Fault.{Fault}
+use Rattle.fault.specs.declared.Fault.the-variants.{BitTableFull, TooManyBitTerms}
 use Rattle.terms.specs.Exps.{limit, tops-of}
 use Rattle.terms.specs.Kind.{KindModel, KindLaws}
 use Rattle.terms.specs.Nets.{net-model}
 use Rattle.terms.specs.Numbers.{inside}
 use Rattle.terms.specs.Sets.{holds, Own, Within}
-use Rattle.terms.specs.Terms.{Nonzero, Codes, Monos}
+use Rattle.terms.specs.Terms.{blank, Nonzero, Codes, Monos}
 use Rattle.terms.specs.Values.{every, set-on, value-at, bit-at}
 use Rattle.terms.specs.declared.Term.{Term}
 use Rattle.terms.specs.declared.nets.NetSet.{NetSet}
@@ -41,7 +43,7 @@ use Rattle.convert.specs.Places.{row-held}
 use Rattle.convert.specs.declared.FullTable.{FullTable}
 use Rattle.convert.proofs.Plain.{plain, plains}
 use Rattle.convert.proofs.Value.{Z, converting-table}
-use Rattle.cards.specs.BitsWorking.{word-factors, bits-working, Inverse, BitsAnswered}
+use Rattle.cards.specs.BitsWorking.{word-factors, bits-working, BitsRefused, full, too-many, Inverse, BitsAnswered}
 use Rattle.cards.specs.Law.{IsInput, card-value, Polynomial, FormOf}
 use Rattle.cards.specs.Sums.{one-net, word-term, word-sum, card-kind}
 use Rattle.cards.proofs.BitRows.{enough-bits, more-bits, kept-bits}
@@ -288,28 +290,39 @@ module _ (m : FieldData) (l : FieldLaws m) (n : ℕ) (few : n ≤ 3) where
       form-again = λ bits b c. sym (form-of .only bits b (λ xs h. sym (c .values xs h)));
     }
 
-  never : {B : Type 0} (us : List (Term NetSet)) (t : FullTable) → _≡_ {A = Converted NetSet} (finished us) (stopped t) → B
-  never us t p = absurd (let z : _≡_ {A = ℕ} 0 1 = cc in omega arith)
+  -- the working goes to its end where the rows suffice
+  ends : (cap count : ℕ) → 2 ^ (n * m .width) ≤ cap → 2 ^ (n * m .width) ≤ count → (card : List (Term (List ℕ))) → (form : List (Term NetSet)) × (bits-working m n cap count card ≡ finished form)
+  ends cap count h r card = let x = enough-bits m l n cap count h r card in (x .0, x .1)
 
   -- the whole answer, from that of the conversion
-  pub bits-ok : (cap count : ℕ) (card : List (Term (List ℕ))) (rows : List (Term NetSet)) (t : ℕ) → Answered net-model (product m) cap count (word-factors m n) card rows (Ok t)
+  pub bits-ok : (cap count : ℕ) (card : List (Term (List ℕ))) (rows : List (Term NetSet)) (t : ℕ) → t ≤ 256 → Answered net-model (product m) cap count (word-factors m n) card rows (Ok t)
       → BitsAnswered m n cap count card rows (Ok t)
-  bits-ok cap count card rows t a = record {
-    worked = a;
+  bits-ok cap count card rows t most a = record {
+    worked = (a .0, most, a .1);
     inputs = kept-bits m l n cap count card (take t rows) (a .0) .1;
     made = λ p. form-of cap count card p (take t rows) (a .0);
     inverse = λ p. inverse cap count card p (take t rows) (a .0);
-    enough = λ _ _. refl;
+    enough = λ h r. ends cap count h r card;
     more = λ cap′ count′ h r form e. more-bits m l n cap cap′ count count′ h r card form e;
   }
 
-  pub bits-err : (cap count : ℕ) (card : List (Term (List ℕ))) (rows : List (Term NetSet)) (t : FullTable) → Answered net-model (product m) cap count (word-factors m n) card rows (Err t)
-      → BitsAnswered m n cap count card rows (Err BitTableFull)
-  bits-err cap count card rows t a = record {
-    worked = (t, a .0, refl, a .1);
+  -- a refusal, whatever its reason
+  refused : (cap count : ℕ) (card : List (Term (List ℕ))) (rows : List (Term NetSet)) (e : Fault) → BitsRefused (bits-working m n cap count card) e → rows ≡ replicate count (blank net-model)
+      → BitsAnswered m n cap count card rows (Err e)
+  refused cap count card rows e why cleared = record {
+    worked = (why, cleared);
     inputs = tt;
     made = λ _. tt;
     inverse = λ _. tt;
-    enough = λ h r. let x = enough-bits m l n cap count h r card in never (x .0) t (sym (x .1) ∙ a .0);
+    enough = λ h r. ends cap count h r card;
     more = λ cap′ count′ h r form e. more-bits m l n cap cap′ count count′ h r card form e;
   }
+
+  pub bits-many : (cap count : ℕ) (card : List (Term (List ℕ))) (rows : List (Term NetSet)) (t : ℕ) → 256 < t → Answered net-model (product m) cap count (word-factors m n) card rows (Ok t)
+      → (after : List (Term NetSet)) → after ≡ replicate count (blank net-model) → BitsAnswered m n cap count card after (Err TooManyBitTerms)
+  bits-many cap count card rows t many a after cleared =
+      refused cap count card after TooManyBitTerms (too-many (take t rows) (a .0) (let e = length-take-le t rows (a .1 .within) in omega arith)) cleared
+
+  pub bits-err : (cap count : ℕ) (card : List (Term (List ℕ))) (rows : List (Term NetSet)) (t : FullTable) → Answered net-model (product m) cap count (word-factors m n) card rows (Err t)
+      → BitsAnswered m n cap count card rows (Err BitTableFull)
+  bits-err cap count card rows t a = refused cap count card rows BitTableFull (full t (a .0)) (a .1)

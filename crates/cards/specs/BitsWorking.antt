@@ -2,14 +2,13 @@
 use mathlib.Core.Path.{_≡_}
 use mathlib.Core.Bool.{true}
 use mathlib.Core.List.{List, []}
-use Prim.Native.Nat.{ℕ, _*_, _/_, _%_, _^_, _≤_}
-use lib.ListN.{take, replicate}
-use Rattle.std.specs.Results.{isOk}
+use Prim.Native.Nat.{ℕ, _*_, _/_, _%_, _^_, _<_, _≤_}
+use lib.ListN.{length, take, replicate}
 use Rattle.std.specs.declared.result.Result.{Result}
 use Rattle.std.specs.declared.result.Result.the-variants.{Ok, Err}
 use Rattle.algebra.specs.Field.{FieldData, product}
 use Rattle.fault.specs.declared.Fault.{Fault}
-use Rattle.fault.specs.declared.Fault.the-variants.{BitTableFull}
+use Rattle.fault.specs.declared.Fault.the-variants.{BitTableFull, TooManyBitTerms}
 use Rattle.terms.specs.Nets.{net-model}
 use Rattle.terms.specs.Sets.{Within}
 use Rattle.terms.specs.Terms.{blank, Table, Monos}
@@ -30,10 +29,15 @@ word-factors m n r = chosen (row-held (m .width) r) (λ p. word-sum m (p / m .wi
 abbrev pub bits-working : FieldData → ℕ → ℕ → ℕ → List (Term (List ℕ)) → Converted NetSet
 bits-working m n cap rows card = converting net-model (product m) cap rows (word-factors m n) card []
 
--- the answer to a working that ended in `end`, and the rows of the result table then: the number of terms, with the terms, then zero rows; or the refusal where a table was full, with zero rows only
+-- why no bit form is answered: a table was full, or the working ended with more than 256 terms
+pub data BitsRefused (end : Converted NetSet) : Fault → Type 0 where
+  full : (t : FullTable) → end ≡ stopped t → BitsRefused end BitTableFull
+  too-many : (us : List (Term NetSet)) → end ≡ finished us → 256 < length us → BitsRefused end TooManyBitTerms
+
+-- the answer to a working that ended in `end`, and the rows of the result table then: the number of terms, at most 256, with the terms, then zero rows; or the refusal, with zero rows only
 abbrev pub BitsEnd : Converted NetSet → ℕ → List (Term NetSet) → Result ℕ Fault → Type 0
-BitsEnd end count rows (Ok t) = (end ≡ finished (take t rows)) × Table net-model rows t
-BitsEnd end count rows (Err e) = (t : FullTable) × (end ≡ stopped t) × (e ≡ BitTableFull) × (rows ≡ replicate count (blank net-model))
+BitsEnd end count rows (Ok t) = (end ≡ finished (take t rows)) × (t ≤ 256) × Table net-model rows t
+BitsEnd end count rows (Err e) = BitsRefused end e × (rows ≡ replicate count (blank net-model))
 
 -- where a number is answered, the sets hold bits of the n words alone
 abbrev pub InputBits : FieldData → ℕ → List (Term NetSet) → Result ℕ Fault → Type 0
@@ -67,8 +71,8 @@ pub record BitsAnswered (m : FieldData) (n cap count : ℕ) (card : List (Term (
   pub made : Polynomial m n card → FormMade m n card rows answer
   -- and the conversion back gives the polynomial again
   pub inverse : Polynomial m n card → Undoes m n card rows answer
-  -- 2^(n·k) rows suffice in each table
-  pub enough : 2 ^ (n * m .width) ≤ cap → 2 ^ (n * m .width) ≤ count → isOk answer ≡ true
+  -- with 2^(n·k) rows in each table the working goes to its end
+  pub enough : 2 ^ (n * m .width) ≤ cap → 2 ^ (n * m .width) ≤ count → (form : List (Term NetSet)) × (bits-working m n cap count card ≡ finished form)
   -- a working that ends, ends the same with more rows
   pub more : (cap′ count′ : ℕ) → cap ≤ cap′ → count ≤ count′ → (form : List (Term NetSet)) → bits-working m n cap count card ≡ finished form
       → bits-working m n cap′ count′ card ≡ finished form

@@ -14,9 +14,13 @@ use convert::rows::RowsHold;
 use fault::Fault;
 use field::Field;
 use terms::Term;
+use terms::clear_rows;
 use terms::nets::NetSet;
 use terms::nets::Nets;
 use terms::nets::NetsKind;
+
+// The most terms of a bit form.
+const MAX_TERMS: usize = 256;
 
 // The conversion for at most three words.
 fn work<F: Field>(
@@ -41,12 +45,18 @@ fn work<F: Field>(
         places: n * width,
     };
     match convert(&Nets, field, &places, card, &factors, first, second, bits) {
-        Ok(terms) => Ok(terms),
+        Ok(terms) => {
+            if terms > MAX_TERMS {
+                clear_rows(&Nets, bits);
+                return Err(Fault::TooManyBitTerms);
+            }
+            Ok(terms)
+        }
         Err(_full) => Err(Fault::BitTableFull),
     }
 }
 
-// The bit form of a polynomial in `n` words, 1 to 3 (below 1 counts as 1, above 3 as 3): makes `bits` hold it, and answers its number of terms.
+// The bit form of a polynomial in `n` words, 1 to 3 (below 1 counts as 1, above 3 as 3): makes `bits` hold it, and answers its number of terms, which is at most 256.
 // The product tables `first` and `second` have as many rows as the shorter of them.
 pub fn to_bits<F: Field>(
     field: &F,

@@ -4,10 +4,10 @@ mod rounds;
 
 use job::answer::OutcomeDisplay;
 use job::answer::answer;
+use rounds::round;
 use std::error::AnyError;
 use std::io::Read;
 use std::io::Write;
-use rounds::round;
 
 // The most bytes of a table.
 const MOST: u64 = 1 << 20;

@@ -148,7 +148,10 @@ pub fn round(rt: &LibcRuntime, job: &[u8]) -> Result<(), AnyError> {
     let right = holds(&work, tried, card);
     let (mut c, mut d, mut back) = (no_bits, no_bits, no_bits);
     let Ok(again) = to_bits(&work.field, n, card, &mut c, &mut d, &mut back) else {
-        println!(rt, "round: full, {terms} bit terms, {rows} rows, {tried} inputs, right {right}")?;
+        println!(
+            rt,
+            "round: full, {terms} bit terms, {rows} rows, {tried} inputs, right {right}"
+        )?;
         return Ok(());
     };
     let back = &back[0..again];
@@ -158,6 +161,9 @@ pub fn round(rt: &LibcRuntime, job: &[u8]) -> Result<(), AnyError> {
         Ok(count) => same(&Exps::new([255; 3]), card, &twice[0..count]),
         Err(_) => false,
     };
-    println!(rt, "round: {terms} bit terms, {rows} rows, {tried} inputs, right {right}, same bits {same_bits}, same card {same_card}")?;
+    println!(
+        rt,
+        "round: {terms} bit terms, {rows} rows, {tried} inputs, right {right}, same bits {same_bits}, same card {same_card}"
+    )?;
     Ok(())
 }
