@@ -1,7 +1,7 @@
 -- Additive maps by their values at the codes 2^i; a code is the dual of bit i where its signature is 2^i. Assumes nothing.
-use Rattle.std.proofs.Common.{◌≡◌, ℕ, zero, suc, ◌+◌, ◌*◌, ◌/◌, ◌%◌, ◌^◌, ◌<◌, ◌≤◌, Bool, true, false, cond, eqb, ◌⊎◌, List, get_or, sym, refl, ap, ◌∙◌, subst, ap₂, inl, inr, mod-lt, mod-eq_of_lt, arith, pow_pos, pow_mono, eq-eqb, ne_eqb, eqb-true}
+use Rattle.std.proofs.Common.{◌≡◌, ℕ, zero, suc, ◌%◌, ◌^◌, ◌<◌, ◌≤◌, Bool, true, false, cond, eqb, ◌⊎◌, List, get_or, sym, refl, ap, ◌∙◌, subst, ap₂, inl, inr, mod-lt, mod-eq_of_lt, arith, pow_pos, pow_mono, eq-eqb, ne_eqb, eqb-true}
 use native.Mathlib.Decide.{ℕ_discrete}
-use lib.Bits.{bit_xor, xor_comm, xor_self, xor_assoc, xor_zero_l, xor_zero_r, xor_lt}
+use lib.Bits.{bit_xor, xor_comm, xor_self, xor_assoc, xor_zero_l, xor_zero_r}
 use lib.Pow.{pow-lt}
 use borrow.Author.Tests.{eqb-false}
 use Rattle.algebra.specs.Field.{FieldData, FieldLaws, size, product}

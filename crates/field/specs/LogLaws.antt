@@ -1,5 +1,5 @@
 -- The field modulo 285, and its product by the tables of powers and logarithms. Assumes nothing.
-use Rattle.std.specs.Prelude.{◌≡◌, ℕ, ◌+◌, ◌-◌, ◌%◌, ◌^◌, ◌<◌, ◌≤◌, T, ◌≢◌, nat_eq, nat_lt, slice_index, refl}
+use Rattle.std.specs.Prelude.{◌≡◌, ℕ, ◌+◌, ◌-◌, ◌%◌, ◌<◌, ◌≢◌, nat_eq, nat_lt, slice_index, refl}
 use Rattle.std.proofs.Common.{sym, ap, ◌∙◌, subst, mod-eq_of_lt, arith, eqb→eq, ltb→lt, lit<, lit≤}
 use Rattle.algebra.specs.Field.{FieldLaws}
 use Rattle.algebra.specs.Codes.{power}

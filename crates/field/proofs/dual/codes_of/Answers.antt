@@ -1,4 +1,4 @@
-use Rattle.std.proofs.Common.{◌≡◌, ℕ, zero, suc, ◌+◌, ◌*◌, ◌/◌, ◌%◌, ◌^◌, ◌<◌, ◌≤◌, ◌≢◌, List, length, get_or, set, replicate, sym, refl, ap, ◌∙◌, subst, ap₂, mod-lt, arith, length-set, get_or-set_other, get_or-set_same, pow_pos, pow_mono, below_more}
+use Rattle.std.proofs.Common.{◌≡◌, ℕ, zero, suc, ◌+◌, ◌*◌, ◌/◌, ◌%◌, ◌^◌, ◌<◌, ◌≤◌, List, length, get_or, set, replicate, sym, refl, ap, ◌∙◌, subst, ap₂, mod-lt, arith, length-set, get_or-set_other, get_or-set_same, pow_pos, pow_mono, below_more}
 use lib.Bits.{bit_xor, xor_comm, xor_shifted}
 use native.Mathlib.Decide.{ℕ_discrete}
 use Rattle.algebra.specs.Field.{FieldData, FieldLaws, size}
@@ -61,7 +61,7 @@ bounds-codes-sum g c =
     let m = g.F.Field.model c.args.f.now in
     let l = g.met.F.Field.holds c.args.f.now in
     let below = signature_below m l c.loop-d.d in
-    let is = by-halves m l c.signatures-columns.result c.combined-steps-low.result c.combined-steps-high.result (λ i h. c.signatures-columns.ensures i (omega (arith, l.wide))) c.combined-steps-low.ensures c.combined-steps-high.ensures
+    let is = by-halves m l c.signatures-columns.result c.combined_steps-low.result c.combined_steps-high.result (λ i h. c.signatures-columns.ensures i (omega (arith, l.wide))) c.combined_steps-low.ensures c.combined_steps-high.ensures
     c.loop-d.d (omega (arith, c.order-d-end.ensures)) in
     let most : size m ≤ 2 ^ 8 = pow_mono {i = m.width} {j = 8} l.wide in
     omega (arith, is, below, most, c.loop-d.invariant.0)
@@ -71,10 +71,10 @@ loop-d-preserved g c =
     let m = g.F.Field.model c.args.f.now in
     let l = g.met.F.Field.holds c.args.f.now in
     let d = c.loop-d.d in
-    let i = bit_xor (get_or c.combined-steps-low.result (c.loop-d.d % 16) 0) (get_or c.combined-steps-high.result (c.loop-d.d / 16) 0) in
+    let i = bit_xor (get_or c.combined_steps-low.result (c.loop-d.d % 16) 0) (get_or c.combined_steps-high.result (c.loop-d.d / 16) 0) in
     let code : d < size m = omega (arith, c.order-d-end.ensures) in
     let is : i ≡ signature m d =
-    by-halves m l c.signatures-columns.result c.combined-steps-low.result c.combined-steps-high.result (λ i h. c.signatures-columns.ensures i (omega (arith, l.wide))) c.combined-steps-low.ensures c.combined-steps-high.ensures d code in
+    by-halves m l c.signatures-columns.result c.combined_steps-low.result c.combined_steps-high.result (λ i h. c.signatures-columns.ensures i (omega (arith, l.wide))) c.combined_steps-low.ensures c.combined_steps-high.ensures d code in
     let most : size m ≤ 2 ^ 8 = pow_mono {i = m.width} {j = 8} l.wide in
     let within : i < length c.loop-d.codes = omega (arith, is, signature_below m l d, most, c.loop-d.invariant.0) in (
       simp length-set c.loop-d.invariant.0,
@@ -84,18 +84,18 @@ loop-d-preserved g c =
           (subst (λ s. signature m (get_or (set c.loop-d.codes i d) s 0) ≡ signature m d) is (rw get_or-set_same refl)),
     )
 
-pub overflow-cast-codes : goal.overflow-cast-codes
-overflow-cast-codes g c =
+pub overflow_cast-codes : goal.overflow_cast-codes
+overflow_cast-codes g c =
     let m = g.F.Field.model c.args.f.now in
     let l = g.met.F.Field.holds c.args.f.now in
-    let is = by-halves m l c.signatures-columns.result c.combined-steps-low.result c.combined-steps-high.result (λ i h. c.signatures-columns.ensures i (omega (arith, l.wide))) c.combined-steps-low.ensures c.combined-steps-high.ensures
+    let is = by-halves m l c.signatures-columns.result c.combined_steps-low.result c.combined_steps-high.result (λ i h. c.signatures-columns.ensures i (omega (arith, l.wide))) c.combined_steps-low.ensures c.combined_steps-high.ensures
     c.loop-d.d (omega (arith, c.order-d-end.ensures)) in
     omega (arith, sum-small m l _ c.loop-d.d is)
 
-pub offset-bounds-codes-sum : goal.offset-bounds-codes-sum
-offset-bounds-codes-sum g c =
+pub offset_bounds-codes-sum : goal.offset_bounds-codes-sum
+offset_bounds-codes-sum g c =
     let m = g.F.Field.model c.args.f.now in
     let l = g.met.F.Field.holds c.args.f.now in
-    let is = by-halves m l c.signatures-columns.result c.combined-steps-low.result c.combined-steps-high.result (λ i h. c.signatures-columns.ensures i (omega (arith, l.wide))) c.combined-steps-low.ensures c.combined-steps-high.ensures
+    let is = by-halves m l c.signatures-columns.result c.combined_steps-low.result c.combined_steps-high.result (λ i h. c.signatures-columns.ensures i (omega (arith, l.wide))) c.combined_steps-low.ensures c.combined_steps-high.ensures
     c.loop-d.d (omega (arith, c.order-d-end.ensures)) in
     omega (arith, sum-small m l _ c.loop-d.d is)

@@ -1,4 +1,4 @@
-use Rattle.std.proofs.Common.{◌≡◌, cond, eqb, get_or, sym, refl, ap, ◌∙◌, add-one, eq-eqb, ne_eqb}
+use Rattle.std.proofs.Common.{cond, eqb, get_or, sym, ap, ◌∙◌, add-one, eq-eqb, ne_eqb}
 use lib.Bits.{xor_zero_r}
 use Rattle.algebra.specs.Codes.{bit_of}
 use Rattle.algebra.proofs.Squares.{next_sum}

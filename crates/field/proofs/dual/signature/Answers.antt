@@ -1,4 +1,4 @@
-use Rattle.std.proofs.Common.{◌≡◌, ℕ, ◌*◌, ◌%◌, ◌^◌, ◌<◌, ◌≤◌, cond, eqb, sym, refl, ap, ◌∙◌, add-one, arith, pow_mono, eq-eqb, ne_eqb}
+use Rattle.std.proofs.Common.{◌≡◌, ◌*◌, ◌%◌, ◌^◌, ◌≤◌, cond, eqb, sym, ap, ◌∙◌, add-one, arith, pow_mono, eq-eqb, ne_eqb}
 use lib.Bits.{xor_zero_r}
 use Rattle.algebra.specs.Field.{product}
 use Rattle.algebra.specs.Codes.{trace}

@@ -1,4 +1,4 @@
-use Rattle.std.proofs.Common.{◌≡◌, ℕ, ◌%◌, ◌^◌}
+use Rattle.std.proofs.Common.{◌≡◌, ◌%◌, ◌^◌}
 use Rattle.algebra.specs.Field.{size}
 use Rattle.algebra.specs.Codes.{power, code_sum}
 use Rattle.field.proofs.dual.trace.Given as goal

@@ -14,8 +14,8 @@ step k p h d true y i z e f y' (inr w) = absurd (true≢false w.0)
 step k p h d false y i z e f y' (inl w) = absurd (true≢false (sym w.0))
 step k p h d false y i z e f y' (inr w) = w.1 ∙ e ∙ next_even k p h d y i f
 
-pub times-x-z-requires : goal.times-x-z-requires
-times-x-z-requires c = record {
+pub times_x-z-requires : goal.times_x-z-requires
+times_x-z-requires c = record {
   small = c.requires.wide;
   degree = c.requires.degree;
   code = subst (λ (z : ℕ). z < 2 ^ c.args.k) (sym c.loop-i.invariant.0) (raised_below c.args.k c.args.p c.requires.narrow c.requires.degree c.args.odd c.loop-i.i);
@@ -29,7 +29,7 @@ loop-i-preserved c =
     let y = c.loop-i.y in
     let up : suc i ≡ i + 1 = omega arith in
     let lt : i < length c.loop-i.powers = omega (arith, c.loop-i.invariant.2, c.loop-i-test.true) in (
-      step k p c.requires.narrow c.requires.degree c.args.odd y i c.times-x-z.result c.times-x-z.ensures c.loop-i.invariant.0 c.if-odd.y
+      step k p c.requires.narrow c.requires.degree c.args.odd y i c.times_x-z.result c.times_x-z.ensures c.loop-i.invariant.0 c.if-odd.y
           (elim c.if-odd.branch [ then-odd w ↦ inl (w.if-odd.true, w.y-is) | else-odd w ↦ inr (w.if-odd.false, w.y-is) ])
           ∙ ap (raised k p (base c.args.odd)) up,
       below_more _ _
