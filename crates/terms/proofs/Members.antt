@@ -1,5 +1,5 @@
 -- Net sets by their members. Assumes nothing.
-use Rattle.std.proofs.Common.{◌≡◌, ℕ, zero, suc, ◌+◌, ◌-◌, ◌/◌, ◌%◌, ◌^◌, ◌<◌, ◌≤◌, true, false, ◌||◌, eqb, leb, ◌⊎◌, List, [], ◌∷◌, reverse, length, get_or, replicate, sym, refl, ap, ◌∙◌, ap₂, ⊎_elim, mod-lt, div-add-mod', div-one, arith, pow_mono, shr-shr}
+use Rattle.std.proofs.Common.{◌≡◌, ℕ, zero, suc, ◌+◌, ◌-◌, ◌/◌, ◌%◌, ◌^◌, ◌<◌, ◌≤◌, true, false, ◌||◌, eqb, leb, List, [], ◌∷◌, reverse, length, get_or, replicate, sym, refl, ap, ◌∙◌, ap₂, ⊎_elim, mod-lt, div-add-mod', div-one, arith, pow_mono, shr-shr}
 use native.Mathlib.Nat.{div-eq_of_lt, zero-div}
 use lib.Bits.{bit_or, or_shr, or_mod}
 use Rattle.std.proofs.lemmas.Bool.{cases_Bool, cases_order, cases_lt, true≢false, false≢true, eqb-true, eqb-false, and_parts, leb-true}

@@ -13,8 +13,8 @@ mod reuse;
 // How many of the first `len` rows stand above `mono`.
 fn position<M: Copy, K: Kind<M>>(kind: &K, rows: &[Term<M>], len: usize, mono: M) -> usize
     requires within { len ≤ length rows.now }
-    requires falling { Falling (model kind.now) (take len rows.now) }
-    ensures { result ≡ place (model kind.now) mono (take len rows.now) }
+    requires falling { Falling (K.model kind.now) (take len rows.now) }
+    ensures { result ≡ place (K.model kind.now) mono (take len rows.now) }
 {
     let mut lo = 0;
     let mut hi = len;
@@ -49,7 +49,7 @@ fn close_row<M: Copy>(rows: &mut [Term<M>], at: usize, len: usize, z: Term<M>)
 
 // The row that stands where there is no term: code 0 and the unit.
 fn zero_row<M: Copy, K: Kind<M>>(kind: &K) -> Term<M>
-    ensures { result ≡ blank (model kind.now) }
+    ensures { result ≡ blank (K.model kind.now) }
 {
     Term {
         code: 0,
@@ -69,8 +69,8 @@ fn add_row<M: Copy, K: Kind<M>>(
     code: u16,
     mono: M,
 ) -> Result<usize, Full>
-    requires { Table (model kind.now) rows.old len }
-    ensures { elim result [ Ok n ↦ Added (model kind.now) code mono rows.old len rows.new n | Err e ↦ Refused (model kind.now) code mono rows.old len rows.new ] }
+    requires { Table (K.model kind.now) rows.old len }
+    ensures { elim result [ Ok n ↦ Added (K.model kind.now) code mono rows.old len rows.new n | Err e ↦ Refused (K.model kind.now) code mono rows.old len rows.new ] }
 {
     if code == 0 {
         return Ok(len);
@@ -95,7 +95,7 @@ fn add_row<M: Copy, K: Kind<M>>(
 
 // Makes every row a zero row.
 pub fn clear_rows<M: Copy, K: Kind<M>>(kind: &K, rows: &mut [Term<M>])
-    ensures { rows.new ≡ replicate (length rows.old) (blank (model kind.now)) }
+    ensures { rows.new ≡ replicate (length rows.old) (blank (K.model kind.now)) }
 {
     let zero = zero_row(kind);
     for row in rows.iter_mut() {
@@ -114,9 +114,9 @@ fn drop_first<M: Copy>(rows: &mut [Term<M>], len: usize, z: Term<M>)
 
 // Takes the first row out, where the table is not empty.
 fn take_first<M: Copy, K: Kind<M>>(kind: &K, rows: &mut [Term<M>], len: usize) -> Term<M>
-    requires table { Table (model kind.now) rows.old len }
+    requires table { Table (K.model kind.now) rows.old len }
     requires some { 0 < len }
-    ensures { TookFirst (model kind.now) rows.old len result rows.new (len - 1) }
+    ensures { TookFirst (K.model kind.now) rows.old len result rows.new (len - 1) }
 {
     let lead = rows[0];
     drop_first(rows, len, zero_row(kind));
@@ -126,7 +126,7 @@ fn take_first<M: Copy, K: Kind<M>>(kind: &K, rows: &mut [Term<M>], len: usize) -
 // Makes the rows the first `n` of `src`, and then zero rows.
 fn copy_rows<M: Copy, K: Kind<M>>(kind: &K, rows: &mut [Term<M>], src: &[Term<M>], n: usize)
     requires { (n ≤ length rows.old) × (n ≤ length src.now) }
-    ensures { rows.new ≡ take n src.now ++ replicate (length rows.old - n) (blank (model kind.now)) }
+    ensures { rows.new ≡ take n src.now ++ replicate (length rows.old - n) (blank (K.model kind.now)) }
 {
     clear_rows(kind, rows);
     rows[0..n].copy_from_slice(&src[0..n]);
@@ -146,8 +146,8 @@ impl<'a, M: Copy> TermTable<'a, M> {
     pub fn new<K: Kind<M>>(kind: &K, rows: &'a mut [Term<M>]) -> Self
         ensures same { result.rows.ghost_name ≡ rows.entry.ghost_name }
         ensures len { result.len ≡ 0 }
-        ensures zero { result.rows.now ≡ replicate (length rows.old) (blank (model kind.now)) }
-        ensures table { Sound (model kind.now) result }
+        ensures zero { result.rows.now ≡ replicate (length rows.old) (blank (K.model kind.now)) }
+        ensures table { Sound (K.model kind.now) result }
     {
         clear_rows(kind, rows);
         TermTable { rows, len: 0 }
@@ -162,9 +162,9 @@ impl<'a, M: Copy> TermTable<'a, M> {
 
     // Adds a term; the table is as it was where no row is free.
     pub fn add<K: Kind<M>>(&mut self, kind: &K, code: u16, mono: M) -> Result<(), Full>
-        requires { Sound (model kind.now) self.old }
+        requires { Sound (K.model kind.now) self.old }
         ensures same { self.new.rows.ghost_name ≡ self.old.rows.ghost_name }
-        ensures sum { elim result [ Ok _ ↦ Sum (model kind.now) code mono self.old self.new | Err _ ↦ NoRoom (model kind.now) code mono self.old self.new ] }
+        ensures sum { elim result [ Ok _ ↦ Sum (K.model kind.now) code mono self.old self.new | Err _ ↦ NoRoom (K.model kind.now) code mono self.old self.new ] }
     {
         let len = self.len;
         self.len = add_row(kind, self.rows, len, code, mono)?;
@@ -175,8 +175,8 @@ impl<'a, M: Copy> TermTable<'a, M> {
     pub fn clear<K: Kind<M>>(&mut self, kind: &K)
         ensures same { self.new.rows.ghost_name ≡ self.old.rows.ghost_name }
         ensures len { self.new.len ≡ 0 }
-        ensures zero { self.new.rows.now ≡ replicate (capacity self.old) (blank (model kind.now)) }
-        ensures table { Sound (model kind.now) self.new }
+        ensures zero { self.new.rows.now ≡ replicate (capacity self.old) (blank (K.model kind.now)) }
+        ensures table { Sound (K.model kind.now) self.new }
     {
         clear_rows(kind, self.rows);
         self.len = 0;
@@ -203,9 +203,9 @@ impl<'a, M: Copy> TermTable<'a, M> {
 
     // Takes the leading term off, where there is one.
     pub fn take_lead<K: Kind<M>>(&mut self, kind: &K) -> Option<Term<M>>
-        requires { Sound (model kind.now) self.old }
+        requires { Sound (K.model kind.now) self.old }
         ensures same { self.new.rows.ghost_name ≡ self.old.rows.ghost_name }
-        ensures off { elim result [ Some t ↦ Off (model kind.now) t self.old self.new | None ↦ (live self.old ≡ []) × (self.new.rows.now ≡ self.old.rows.now) × (self.new.len ≡ self.old.len) ] }
+        ensures off { elim result [ Some t ↦ Off (K.model kind.now) t self.old self.new | None ↦ (live self.old ≡ []) × (self.new.rows.now ≡ self.old.rows.now) × (self.new.len ≡ self.old.len) ] }
     {
         let len = self.len;
         if len == 0 {
@@ -218,9 +218,9 @@ impl<'a, M: Copy> TermTable<'a, M> {
 
     // Makes this table hold the terms of `other`; it is as it was where it has too few rows.
     pub fn copy_from<K: Kind<M>>(&mut self, kind: &K, other: &TermTable<M>) -> Result<(), Full>
-        requires { Sound (model kind.now) other.now }
+        requires { Sound (K.model kind.now) other.now }
         ensures same { self.new.rows.ghost_name ≡ self.old.rows.ghost_name }
-        ensures copied { elim result [ Ok _ ↦ (live self.new ≡ live other.now) × Sound (model kind.now) self.new × (capacity self.new ≡ capacity self.old) | Err _ ↦ (capacity self.old < other.now.len) × (self.new.rows.now ≡ self.old.rows.now) × (self.new.len ≡ self.old.len) ] }
+        ensures copied { elim result [ Ok _ ↦ (live self.new ≡ live other.now) × Sound (K.model kind.now) self.new × (capacity self.new ≡ capacity self.old) | Err _ ↦ (capacity self.old < other.now.len) × (self.new.rows.now ≡ self.old.rows.now) × (self.new.len ≡ self.old.len) ] }
     {
         let n = other.len;
         if n > self.rows.len() {
@@ -234,7 +234,7 @@ impl<'a, M: Copy> TermTable<'a, M> {
 
 // What adding a term means, for every kind.
 pub fn sums_stand<M: Copy, K: Kind<M>>(kind: &K)
-    ensures value { AddsValue (model kind.now) }
-    ensures coeff { AddsCoeff (model kind.now) }
-    ensures one { OnlyOne (model kind.now) }
+    ensures value { AddsValue (K.model kind.now) }
+    ensures coeff { AddsCoeff (K.model kind.now) }
+    ensures one { OnlyOne (K.model kind.now) }
 {}

@@ -9,10 +9,10 @@ returns g c =
     let at = c.args.at in
     let len = c.args.len in
     let to = c.loop-to.to in
-    let ys = c.copy-within-2.new.self in
+    let ys = c.copy_within-2.new.self in
     let I = c.loop-to.invariant in
-    let Q = c.copy-within-2.ensures.by_index in
-    moved R (at + 1) len at (omega (arith, c.requires.0)) c.requires.1 (omega (arith, c.requires.0, c.requires.1)) ys (c.copy-within-2.ensures.len ∙ c.loop-to.auto.xs)
+    let Q = c.copy_within-2.ensures.by_index in
+    moved R (at + 1) len at (omega (arith, c.requires.0)) c.requires.1 (omega (arith, c.requires.0, c.requires.1)) ys (c.copy_within-2.ensures.len ∙ c.loop-to.auto.xs)
     (λ k d a b.
     ⊎_elim
     (λ (x : k < to). Q.1 k d x ∙ I.3 k d a x ∙ ap (λ (i : ℕ). get_or R i d) (let e : k + 1 ≡ (at + 1) + (k - at) = omega arith in e))
