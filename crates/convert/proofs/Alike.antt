@@ -8,7 +8,7 @@ use Rattle.terms.specs.Additions.{Ended, done, full, adding}
 use Rattle.terms.specs.declared.Term.{Term}
 use Rattle.terms.proofs.Laws.{added_monos}
 use Rattle.convert.specs.Products.{products, all_products}
-use Rattle.convert.specs.Convert.{then, multiplying, expanding, Converted, finished, stopped, noted, joined, converting}
+use Rattle.convert.specs.Convert.{then, multiplying, expanding, Converted, noted, joined, converting}
 use Rattle.convert.proofs.Kept.{all_p}
 
 module _ {M : Type 0} (k : KindModel M) (L : KindLaws k) (times : M → M → M) (same : (a b : M) → k.own a ≡ true → k.own b ≡ true → k.times a b ≡ times a b) where

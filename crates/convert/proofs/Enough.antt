@@ -1,5 +1,5 @@
 -- As many rows as there are monomials suffice. Assumes nothing.
-use Rattle.std.proofs.Common.{◌≡◌, ℕ, zero, suc, ◌<◌, ◌≤◌, Bool, true, false, cond, ltb, List, [], ◌∷◌, ◌++◌, length, sym, refl, ap, ◌∙◌, arith}
+use Rattle.std.proofs.Common.{◌≡◌, ℕ, ◌<◌, ◌≤◌, true, ltb, List, [], ◌∷◌, length, refl, ap, ◌∙◌, arith}
 use Rattle.std.proofs.lemmas.Bool.{cond-false, le-ltb}
 use Rattle.terms.specs.Kind.{KindModel, KindLaws}
 use Rattle.terms.specs.Terms.{added, term, Under, Falling, Monos}
@@ -8,7 +8,7 @@ use Rattle.terms.proofs.Laws.{added_falling, added_monos}
 use Rattle.terms.specs.Additions.{Ended, done, full, adding}
 use Rattle.convert.specs.Products.{all_products}
 use Rattle.convert.proofs.Kept.{all_p}
-use Rattle.convert.specs.Convert.{then, multiplying, expanding, Converted, finished, noted, joined, converting}
+use Rattle.convert.specs.Convert.{then, multiplying, expanding, finished, noted, joined, converting}
 use Rattle.algebra.specs.Terms as A
 
 -- the monomials that are P are numbered below N, in their order, and closed under products

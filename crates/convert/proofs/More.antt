@@ -1,12 +1,12 @@
 -- More rows change nothing. Assumes nothing.
-use Rattle.std.proofs.Common.{◌≡◌, ℕ, ◌<◌, ◌≤◌, Bool, true, false, cond, ltb, List, [], ◌∷◌, length, sym, refl, ap, ◌∙◌, ⊎_elim, arith}
+use Rattle.std.proofs.Common.{◌≡◌, ℕ, ◌≤◌, ltb, List, [], ◌∷◌, length, sym, refl, ap, ◌∙◌, ⊎_elim, arith}
 use Rattle.std.proofs.lemmas.Bool.{cases_Bool, cond-true, cond-false, ltb-false, le-ltb}
 use Rattle.terms.specs.Kind.{KindModel}
 use Rattle.terms.specs.Terms.{added, term}
 use Rattle.terms.specs.declared.Term.{Term}
 use Rattle.terms.specs.Additions.{Ended, done, full, adding}
 use Rattle.convert.specs.Products.{all_products}
-use Rattle.convert.proofs.Additions.{done_is, done_full}
+use Rattle.convert.proofs.Additions.{done_full}
 use Rattle.convert.specs.Convert.{then, multiplying, expanding, Converted, finished, stopped, noted, joined, converting}
 
 module _ {M : Type 0} (k : KindModel M) where

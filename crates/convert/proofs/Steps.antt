@@ -1,16 +1,16 @@
 -- One step of each loop of a conversion. Assumes nothing.
-use Rattle.std.proofs.Common.{◌≡◌, ℕ, zero, suc, ◌+◌, ◌-◌, ◌*◌, ◌<◌, ◌≤◌, Bool, true, false, cond, ltb, List, [], ◌∷◌, ◌++◌, length, get_or, take, drop, sym, refl, ap, ◌∙◌, subst, ap₂, ⊎_elim, mul-le-mul_right, suc-mul, arith}
+use Rattle.std.proofs.Common.{◌≡◌, ℕ, zero, suc, ◌+◌, ◌-◌, ◌*◌, ◌<◌, ◌≤◌, Bool, true, false, cond, ltb, List, [], ◌∷◌, ◌++◌, length, get_or, take, drop, sym, refl, ap, ◌∙◌, subst, ⊎_elim, mul-le-mul_right, suc-mul, arith}
 use Rattle.std.proofs.lemmas.List.{at_drop_more}
 use Rattle.std.proofs.lemmas.Bool.{cases_Bool, cond-true, cond-false}
 use Rattle.terms.specs.Kind.{KindModel, KindLaws}
-use Rattle.terms.specs.Terms.{added, term, Monos}
+use Rattle.terms.specs.Terms.{added, Monos}
 use Rattle.terms.specs.declared.Term.{Term}
 use Rattle.terms.proofs.Laws.{added_monos}
 use Rattle.terms.specs.Additions.{Ended, done, full, adding}
 use Rattle.convert.specs.Products.{products, all_products}
 use Rattle.convert.proofs.Additions.{done_is, done_full, one_more, one_full}
 use Rattle.convert.specs.declared.FullTable.TheVariants.{Product, Outcome}
-use Rattle.convert.specs.Convert.{block, chosen, then, Stopped, multiplying, expanding, Converted, finished, stopped, noted, joined, converting}
+use Rattle.convert.specs.Convert.{chosen, then, Stopped, multiplying, expanding, Converted, stopped, noted, joined, converting}
 
 -- ---- the places
 module _ {M : Type 0} (held : ℕ → Bool) (f : ℕ → List (Term M)) (i n : ℕ) (h : i < n) where

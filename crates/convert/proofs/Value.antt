@@ -1,5 +1,5 @@
 -- The working, as it is done with tables of a given capacity, is that of the mathematics where it ends. Assumes nothing.
-use Rattle.std.proofs.Common.{◌≡◌, ℕ, zero, suc, ◌+◌, ◌-◌, ◌*◌, ◌/◌, ◌%◌, ◌^◌, ◌<◌, ◌≤◌, Bool, true, false, cond, eqb, ltb, ◌⊎◌, List, [], ◌∷◌, ◌++◌, length, sym, refl, ap, ◌∙◌, subst, ap₂, subst₂, inl, inr, ⊎_elim, arith}
+use Rattle.std.proofs.Common.{◌≡◌, ℕ, true, cond, eqb, ltb, ◌⊎◌, List, [], ◌∷◌, ◌++◌, length, sym, refl, ap, ◌∙◌, ap₂, subst₂, inl, inr, ⊎_elim, arith}
 use native.Mathlib.Decide.{ℕ_discrete}
 use lib.Bits.{bit_xor, xor_comm}
 use Rattle.std.proofs.lemmas.Bool.{cases_Bool, cond-true, cond-false, eqb-true, eqb-false}
@@ -14,7 +14,7 @@ use Rattle.convert.specs.Convert.{then, multiplying, expanding, Converted, finis
 use Rattle.algebra.specs.Terms as A
 use Rattle.algebra.specs.Ops.{Ops, scaled_of, multiplied_of}
 use Rattle.algebra.specs.Table.{Order, front, insert, put, put_all}
-use Rattle.algebra.specs.Working.{table_times, table_product, table_converted}
+use Rattle.algebra.specs.Working.{table_product, table_converted}
 use Rattle.algebra.specs.Theorems.{code_xor}
 use Rattle.convert.proofs.Plain.{plain, plains}
 

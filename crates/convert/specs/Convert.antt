@@ -1,7 +1,7 @@
 -- The working from one kind of terms to another, through product tables and a result table of given capacities. Assumes nothing.
-use Rattle.std.specs.Prelude.{◌≡◌, ℕ, zero, suc, ◌+◌, ◌*◌, ◌≤◌, Bool, true, false, cond, List, [], ◌∷◌, ◌++◌, length, take, drop, replicate, Ok, Err, Result}
+use Rattle.std.specs.Prelude.{◌≡◌, ℕ, zero, suc, ◌*◌, ◌≤◌, Bool, cond, List, [], ◌∷◌, length, take, drop, replicate, Ok, Err, Result}
 use Rattle.terms.specs.Kind.{KindModel}
-use Rattle.terms.specs.Terms.{added, term, blank, Table}
+use Rattle.terms.specs.Terms.{term, blank, Table}
 use Rattle.terms.specs.declared.Term.{Term}
 use Rattle.terms.specs.Additions.{Ended, done, full, adding}
 use Rattle.convert.specs.Products.{all_products}

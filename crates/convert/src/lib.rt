@@ -1,4 +1,6 @@
 // Conversions between bit forms and polynomials in words, worked term by term through tables of lent rows.
+#![tactic(auto)]
+
 pub mod nets;
 pub mod rows;
 

@@ -1,6 +1,6 @@
 use Rattle.std.proofs.Common.{◌≡◌, drop}
 use Rattle.terms.specs.Lent.{live, capacity, Sound}
-use Rattle.terms.specs.Additions.{Ended, adding}
+use Rattle.terms.specs.Additions.{adding}
 use Rattle.convert.proofs.add_all.Given as goal
 
 abbrev pub invariant-loop-i : goal.invariant-loop-i

@@ -1,7 +1,7 @@
 use Rattle.std.proofs.Common.{◌≡◌, drop}
 use Rattle.algebra.specs.Field.{product}
 use Rattle.terms.specs.Lent.{live, capacity, Sound}
-use Rattle.terms.specs.Additions.{Ended, adding}
+use Rattle.terms.specs.Additions.{adding}
 use Rattle.convert.specs.Products.{products}
 use Rattle.convert.proofs.add_products.Given as goal
 

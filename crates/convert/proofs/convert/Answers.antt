@@ -1,4 +1,4 @@
-use Rattle.std.proofs.Common.{◌≡◌, ◌+◌, ◌-◌, ◌≤◌, min, ◌++◌, length, take, drop, replicate, sym, refl, ap, ◌∙◌, subst, ap₂, arith}
+use Rattle.std.proofs.Common.{◌≡◌, ◌+◌, ◌-◌, ◌≤◌, min, ◌++◌, length, drop, replicate, ap, ◌∙◌, subst, ap₂, arith}
 use lib.ListN.{replicate-append-replicate}
 use Rattle.std.proofs.lemmas.List.{length-replicate, length-take-le, drop-replicate}
 use Rattle.algebra.specs.Field.{product}
@@ -14,11 +14,11 @@ returns g c =
     let z = blank k in
     let a = length c.args.first.now in
     let b = length c.args.second.now in
-    let rows1 = c.clear-rows.new.rows in
-    let rows2 = c.clear-rows-2.new.rows in
+    let rows1 = c.clear_rows.new.rows in
+    let rows2 = c.clear_rows-2.new.rows in
     let cap = c.smaller-cap.result in
-    let l1 : length rows1 ≡ a = ap length c.clear-rows.ensures ∙ length-replicate a z in
-    let l2 : length rows2 ≡ b = ap length c.clear-rows-2.ensures ∙ length-replicate b z in
+    let l1 : length rows1 ≡ a = ap length c.clear_rows.ensures ∙ length-replicate a z in
+    let l2 : length rows2 ≡ b = ap length c.clear_rows-2.ensures ∙ length-replicate b z in
     let m : cap ≡ min (length rows1) (length rows2) = c.smaller-cap.ensures in
     let mm : cap ≡ min a b = m ∙ ap₂ min l1 l2 in
     let h1 : cap - 0 ≤ length rows1 = omega (arith, m) in
@@ -29,7 +29,7 @@ returns g c =
     let p1 = length-take-le (cap - 0) rows1 h1 in
     let p2 = length-take-le (cap - 0) rows2 h2 in
     record {
-      first = ap₂ ◌++◌ (c.convert-even.ensures.first ∙ ap (λ n. replicate n z) p1) (ap (drop (cap - 0)) c.clear-rows.ensures ∙ drop-replicate (cap - 0) a z) ∙ replicate-append-replicate (cap - 0) (a - (cap - 0)) z ∙ ap (λ n. replicate n z) n1;
-      second = ap₂ ◌++◌ (c.convert-even.ensures.second ∙ ap (λ n. replicate n z) p2) (ap (drop (cap - 0)) c.clear-rows-2.ensures ∙ drop-replicate (cap - 0) b z) ∙ replicate-append-replicate (cap - 0) (b - (cap - 0)) z ∙ ap (λ n. replicate n z) n2;
-      worked = subst (λ n. Answered k mul n (length c.args.res.now) factors c.args.terms.now c.convert-even.new.result c.convert-even.result) (p1 ∙ n0) c.convert-even.ensures.worked;
+      first = ap₂ ◌++◌ (c.convert_even.ensures.first ∙ ap (λ n. replicate n z) p1) (ap (drop (cap - 0)) c.clear_rows.ensures ∙ drop-replicate (cap - 0) a z) ∙ replicate-append-replicate (cap - 0) (a - (cap - 0)) z ∙ ap (λ n. replicate n z) n1;
+      second = ap₂ ◌++◌ (c.convert_even.ensures.second ∙ ap (λ n. replicate n z) p2) (ap (drop (cap - 0)) c.clear_rows-2.ensures ∙ drop-replicate (cap - 0) b z) ∙ replicate-append-replicate (cap - 0) (b - (cap - 0)) z ∙ ap (λ n. replicate n z) n2;
+      worked = subst (λ n. Answered k mul n (length c.args.res.now) factors c.args.terms.now c.convert_even.new.res c.convert_even.result) (p1 ∙ n0) c.convert_even.ensures.worked;
     }

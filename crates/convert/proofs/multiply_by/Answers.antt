@@ -4,7 +4,7 @@ use Rattle.std.proofs.lemmas.Result.{err_from_is_err_and}
 use Rattle.algebra.specs.Field.{product}
 use Rattle.terms.specs.Terms.{Monos, blank}
 use Rattle.terms.specs.Lent.{live, capacity}
-use Rattle.terms.specs.Additions.{Ended, done, full, adding}
+use Rattle.terms.specs.Additions.{done, full}
 use Rattle.convert.specs.Products.{all_products}
 use Rattle.convert.proofs.Steps.{restart, all_own, adding_monos}
 use Rattle.convert.proofs.multiply_by.Goals as goal
@@ -18,13 +18,13 @@ multiply-requires g c =
       owned = c.requires.owned;
     }
 
-pub returns-in-err-multiply : goal.returns-in-err-multiply
-returns-in-err-multiply g c =
-    let p = err_from_is_err_and c.from-residual.result c.from-residual.ensures.1 in
+pub returns-in_err-multiply : goal.returns-in_err-multiply
+returns-in_err-multiply g c =
+    let p = err_from_is_err_and c.from_residual.result c.from_residual.ensures.1 in
     let k = g.K.Kind.model c.args.kind.now in
     let mul = product (g.F.Field.model c.args.field.now) in
     let z = c.reset.new.self in
-    let s = c.in-err-multiply.ensures in
+    let s = c.in_err-multiply.ensures in
     let zr : capacity z ≡ capacity c.args.second.now = ap length c.reset.ensures.zero ∙ length-replicate (capacity c.args.second.now) (blank k) in
     rw p.1 (record {
       same1 = refl;
@@ -38,15 +38,15 @@ returns-in-err-multiply g c =
       own = tt;
     })
 
-pub returns-in-err-refill : goal.returns-in-err-refill
-returns-in-err-refill g c =
+pub returns-in_err-refill : goal.returns-in_err-refill
+returns-in_err-refill g c =
     let k = g.K.Kind.model c.args.kind.now in
     let z = c.reset.new.self in
-    let s = c.in-ok-multiply.ensures in
+    let s = c.in_ok-multiply.ensures in
     let zr : capacity z ≡ capacity c.args.second.now = ap length c.reset.ensures.zero ∙ length-replicate (capacity c.args.second.now) (blank k) in
     let w : c.multiply.new.out.len ≤ capacity c.multiply.new.out = s.sound.within in
     let r : capacity c.multiply.new.out ≡ capacity c.args.first.now = s.room ∙ zr ∙ c.requires.rooms in
-    let f : capacity c.args.first.now < c.multiply.new.out.len = c.in-err-refill.ensures.copied.0 in
+    let f : capacity c.args.first.now < c.multiply.new.out.len = c.in_err-refill.ensures.copied.0 in
     absurd (omega arith)
 
 pub returns : goal.returns
@@ -55,9 +55,9 @@ returns g c =
     let mul = product (g.F.Field.model c.args.field.now) in
     let P = (λ (m : g.row.M.Denot). k.own m ≡ true) in
     let z = c.reset.new.self in
-    let s = c.in-ok-multiply.ensures in
+    let s = c.in_ok-multiply.ensures in
     let zr : capacity z ≡ capacity c.args.second.now = ap length c.reset.ensures.zero ∙ length-replicate (capacity c.args.second.now) (blank k) in
-    let cp = c.in-ok-refill.ensures in
+    let cp = c.in_ok-refill.ensures in
     let fs = c.args.factor.now in
     let q = restart k mul (capacity c.args.first.now) (capacity z) (live c.args.first.now) c.args.factor.now (live z) (done (live c.multiply.new.out))
     (zr ∙ c.requires.rooms) (ap (λ i. take i z.rows.now) c.reset.ensures.len) s.sum in

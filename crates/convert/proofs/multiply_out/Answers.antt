@@ -1,18 +1,18 @@
-use Rattle.std.proofs.Common.{◌≡◌, ◌+◌, ◌-◌, ◌*◌, ◌<◌, ◌≤◌, true, false, [], ◌∷◌, drop, sym, refl, ap, ◌∙◌, subst, subst₂}
+use Rattle.std.proofs.Common.{◌≡◌, ◌+◌, ◌-◌, ◌*◌, true, [], drop, sym, ap, ◌∙◌, subst, subst₂}
 use Rattle.std.proofs.lemmas.Result.{err_from_is_err_and}
 use Rattle.algebra.specs.Field.{product}
 use Rattle.terms.specs.declared.TermTable.{TermTable}
 use Rattle.terms.specs.Terms.{Monos}
 use Rattle.terms.specs.Lent.{live, capacity, Sound}
-use Rattle.terms.specs.Additions.{Ended, done, full, adding}
+use Rattle.terms.specs.Additions.{done, full, adding}
 use Rattle.convert.specs.Products.{all_products}
 use Rattle.convert.specs.Convert.{block, chosen, multiplying}
 use Rattle.convert.proofs.Steps.{monos_take, monos_drop, chosen_held, chosen_not, chosen_end, factor_more, factor_full}
-use Rattle.convert.proofs.multiply_out.Goals.{then-holds+in-ok-multiply-by, else-holds}
+use Rattle.convert.proofs.multiply_out.Goals.{then-holds+in_ok-multiply_by, else-holds}
 use Rattle.convert.proofs.multiply_out.Goals as goal
 
-pub multiply-by-requires : goal.multiply-by-requires
-multiply-by-requires g c =
+pub multiply_by-requires : goal.multiply_by-requires
+multiply_by-requires g c =
     let k = g.K.Kind.model c.args.kind.now in
     let P = (λ (m : g.row.M.Denot). k.own m ≡ true) in
     let f = c.args.factors.now in
@@ -24,9 +24,9 @@ multiply-by-requires g c =
       rooms = c.loop-p.invariant.5 ∙ c.requires.rooms ∙ sym c.loop-p.invariant.4;
     }
 
-pub returns-in-err-multiply-by : goal.returns-in-err-multiply-by
-returns-in-err-multiply-by g c =
-    let p = err_from_is_err_and c.from-residual.result c.from-residual.ensures.1 in
+pub returns-in_err-multiply_by : goal.returns-in_err-multiply_by
+returns-in_err-multiply_by g c =
+    let p = err_from_is_err_and c.from_residual.result c.from_residual.ensures.1 in
     let k = g.K.Kind.model c.args.kind.now in
     let mul = product (g.F.Field.model c.args.field.now) in
     let cap = capacity c.args.first.now in
@@ -34,8 +34,8 @@ returns-in-err-multiply-by g c =
     let f = block c.args.factors.now.width c.args.factors.now.sums.now in
     let i = c.loop-p.p in
     let n = c.args.factors.now.places in
-    let s = c.in-err-multiply-by.ensures in
-    let e = subst₂ (λ x y. adding k x (all_products k mul (live c.loop-p.first) y) [] ≡ full (live c.multiply-by.new.second)) c.loop-p.invariant.4 c.at.ensures s.worked in
+    let s = c.in_err-multiply_by.ensures in
+    let e = subst₂ (λ x y. adding k x (all_products k mul (live c.loop-p.first) y) [] ≡ full (live c.multiply_by.new.second)) c.loop-p.invariant.4 c.at.ensures s.worked in
     rw p.1 (record {
       same1 = s.same1 ∙ c.loop-p.invariant.2;
       same2 = s.same2 ∙ c.loop-p.invariant.3;
@@ -45,7 +45,7 @@ returns-in-err-multiply-by g c =
       sound2 = s.sound2;
       worked = sym c.loop-p.invariant.7
           ∙ ap (λ fs. multiplying k mul cap fs (live c.loop-p.first)) (chosen_held held f i n c.loop-p-test.true (sym c.if-holds.ensures))
-          ∙ factor_full k mul cap (f i) (chosen held f (i + 1) (n - (i + 1))) (live c.loop-p.first) (live c.multiply-by.new.second) e;
+          ∙ factor_full k mul cap (f i) (chosen held f (i + 1) (n - (i + 1))) (live c.loop-p.first) (live c.multiply_by.new.second) e;
     })
 
 pub loop-p-preserved : goal.loop-p-preserved
@@ -61,9 +61,9 @@ loop-p-preserved g c =
     × (capacity a ≡ cap) × (capacity b ≡ capacity c.args.second.now) × Monos (λ m. k.own m ≡ true) (live a)
     × (multiplying k mul cap (chosen held f (i + 1) (n - (i + 1))) (live a) ≡ multiplying k mul cap (chosen held f 0 n) (live c.args.first.now))) in
     elim c.if-holds.branch [
-      | then-holds+in-ok-multiply-by w ↦
-          let s = w.in-ok-multiply-by.ensures in
-          let a = w.multiply-by.new.first in
+      | then-holds+in_ok-multiply_by w ↦
+          let s = w.in_ok-multiply_by.ensures in
+          let a = w.multiply_by.new.first in
           let e = subst₂ (λ x y. adding k x (all_products k mul (live c.loop-p.first) y) [] ≡ done (live a)) c.loop-p.invariant.4 w.at.ensures s.worked in
           subst₂ P (sym w.first-is) (sym w.second-is) (
             s.sound1,

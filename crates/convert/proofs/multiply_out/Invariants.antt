@@ -2,7 +2,6 @@ use Rattle.std.proofs.Common.{◌≡◌, ◌-◌, true}
 use Rattle.algebra.specs.Field.{product}
 use Rattle.terms.specs.Terms.{Monos}
 use Rattle.terms.specs.Lent.{live, capacity, Sound}
-use Rattle.terms.specs.Additions.{Ended}
 use Rattle.convert.specs.Convert.{block, chosen, multiplying}
 use Rattle.convert.proofs.multiply_out.Given as goal
 

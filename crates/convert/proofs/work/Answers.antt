@@ -1,19 +1,19 @@
-use Rattle.std.proofs.Common.{◌≡◌, [], sym, refl, ap, ◌∙◌, subst, ap₂, subst₂}
+use Rattle.std.proofs.Common.{◌≡◌, sym, ◌∙◌, subst}
 use Rattle.std.proofs.lemmas.List.{at_drop_all}
 use Rattle.algebra.specs.Field.{product}
 use Rattle.terms.specs.Lent.{live, capacity}
-use Rattle.terms.specs.Additions.{Ended, done, full, adding}
+use Rattle.terms.specs.Additions.{done, full, adding}
 use Rattle.convert.specs.Convert.{block, chosen, expanding, Stopped, converting}
 use Rattle.convert.proofs.Steps.{conv_product, conv_outcome, conv_more}
 use Rattle.convert.proofs.work.Goals as goal
 
-pub returns-in-default : goal.returns-in-default
-returns-in-default g c =
+pub returns-in_default : goal.returns-in_default
+returns-in_default g c =
     let k = g.K.Kind.model c.args.kind.now in
     let mul = product (g.F.Field.model c.args.field.now) in
     let factors = (λ (s : g.row.S.Denot). chosen (g.H.Holds.held c.args.source.now s) (block c.args.factors.now.width c.args.factors.now.sums.now) 0 c.args.factors.now.places) in
     let t = c.index-terms-i.result in
-    let x = c.in-default.ensures in
+    let x = c.in_default.ensures in
     let q = subst (λ n. Stopped (expanding k mul n t.code (factors t.mono))) c.loop-i.invariant.6 x.worked in
     record {
       same1 = x.same1 ∙ c.loop-i.invariant.3;
@@ -25,20 +25,20 @@ returns-in-default g c =
       same3 = c.loop-i.invariant.5;
       room3 = c.loop-i.invariant.8;
       sound3 = c.loop-i.invariant.2;
-      worked = sym c.loop-i.invariant.9 ∙ conv_product k mul (capacity c.args.first.now) (capacity c.args.res.now) factors c.args.terms.now c.loop-i.i c.loop-i-test.true t c.index-terms-i.is (live c.loop-i.result) q;
+      worked = sym c.loop-i.invariant.9 ∙ conv_product k mul (capacity c.args.first.now) (capacity c.args.res.now) factors c.args.terms.now c.loop-i.i c.loop-i-test.true t c.index-terms-i.is (live c.loop-i.res) q;
     }
 
-pub returns-in-default-add-all : goal.returns-in-default-add-all
-returns-in-default-add-all g c =
+pub returns-in_default-add_all : goal.returns-in_default-add_all
+returns-in_default-add_all g c =
     let k = g.K.Kind.model c.args.kind.now in
     let mul = product (g.F.Field.model c.args.field.now) in
     let factors = (λ (s : g.row.S.Denot). chosen (g.H.Holds.held c.args.source.now s) (block c.args.factors.now.width c.args.factors.now.sums.now) 0 c.args.factors.now.places) in
     let t = c.index-terms-i.result in
     let x = c.in-Ok.ensures in
-    let y = c.in-default-add-all.ensures in
+    let y = c.in_default-add_all.ensures in
     let us = live c.expand.new.first in
     let q = subst (λ n. expanding k mul n t.code (factors t.mono) ≡ done us) c.loop-i.invariant.6 x.worked in
-    let r = subst (λ n. adding k n us (live c.loop-i.result) ≡ full (live c.add-all.new.out)) c.loop-i.invariant.8 y.sum in
+    let r = subst (λ n. adding k n us (live c.loop-i.res) ≡ full (live c.add_all.new.out)) c.loop-i.invariant.8 y.sum in
     record {
       same1 = x.same1 ∙ c.loop-i.invariant.3;
       same2 = x.same2 ∙ c.loop-i.invariant.4;
@@ -49,7 +49,7 @@ returns-in-default-add-all g c =
       same3 = y.same ∙ c.loop-i.invariant.5;
       room3 = y.room ∙ c.loop-i.invariant.8;
       sound3 = y.sound;
-      worked = sym c.loop-i.invariant.9 ∙ conv_outcome k mul (capacity c.args.first.now) (capacity c.args.res.now) factors c.args.terms.now c.loop-i.i c.loop-i-test.true t c.index-terms-i.is (live c.loop-i.result) us (live c.add-all.new.out) q r;
+      worked = sym c.loop-i.invariant.9 ∙ conv_outcome k mul (capacity c.args.first.now) (capacity c.args.res.now) factors c.args.terms.now c.loop-i.i c.loop-i-test.true t c.index-terms-i.is (live c.loop-i.res) us (live c.add_all.new.out) q r;
     }
 
 pub loop-i-preserved : goal.loop-i-preserved
@@ -59,10 +59,10 @@ loop-i-preserved g c =
     let factors = (λ (s : g.row.S.Denot). chosen (g.H.Holds.held c.args.source.now s) (block c.args.factors.now.width c.args.factors.now.sums.now) 0 c.args.factors.now.places) in
     let t = c.index-terms-i.result in
     let x = c.in-Ok.ensures in
-    let y = c.in-Ok-add-all.ensures in
+    let y = c.in-Ok-add_all.ensures in
     let us = live c.expand.new.first in
     let q = subst (λ n. expanding k mul n t.code (factors t.mono) ≡ done us) c.loop-i.invariant.6 x.worked in
-    let r = subst (λ n. adding k n us (live c.loop-i.result) ≡ done (live c.add-all.new.out)) c.loop-i.invariant.8 y.sum in (
+    let r = subst (λ n. adding k n us (live c.loop-i.res) ≡ done (live c.add_all.new.out)) c.loop-i.invariant.8 y.sum in (
       x.sound1,
       x.sound2,
       y.sound,
@@ -72,7 +72,7 @@ loop-i-preserved g c =
       x.room1 ∙ c.loop-i.invariant.6,
       x.room2 ∙ c.loop-i.invariant.7,
       y.room ∙ c.loop-i.invariant.8,
-      conv_more k mul (capacity c.args.first.now) (capacity c.args.res.now) factors c.args.terms.now c.loop-i.i c.loop-i-test.true t c.index-terms-i.is (live c.loop-i.result) us (live c.add-all.new.out) q r ∙ c.loop-i.invariant.9,
+      conv_more k mul (capacity c.args.first.now) (capacity c.args.res.now) factors c.args.terms.now c.loop-i.i c.loop-i-test.true t c.index-terms-i.is (live c.loop-i.res) us (live c.add_all.new.out) q r ∙ c.loop-i.invariant.9,
     )
 
 pub returns : goal.returns
@@ -90,5 +90,5 @@ returns g c =
       same3 = c.loop-i.invariant.5;
       room3 = c.loop-i.invariant.8;
       sound3 = c.loop-i.invariant.2;
-      worked = sym c.loop-i.invariant.9 ∙ at_drop_all (λ xs. converting k mul (capacity c.args.first.now) (capacity c.args.res.now) factors xs (live c.loop-i.result)) c.args.terms.now c.loop-i.i c.loop-i-test.false;
+      worked = sym c.loop-i.invariant.9 ∙ at_drop_all (λ xs. converting k mul (capacity c.args.first.now) (capacity c.args.res.now) factors xs (live c.loop-i.res)) c.args.terms.now c.loop-i.i c.loop-i-test.false;
     }

@@ -1,8 +1,7 @@
 use Rattle.std.proofs.Common.{◌≡◌, drop}
 use Rattle.algebra.specs.Field.{product}
 use Rattle.terms.specs.Lent.{live, capacity, Sound}
-use Rattle.terms.specs.Additions.{Ended}
-use Rattle.convert.specs.Convert.{block, chosen, converting, Converted}
+use Rattle.convert.specs.Convert.{block, chosen, converting}
 use Rattle.convert.proofs.work.Given as goal
 
 abbrev pub invariant-loop-i : goal.invariant-loop-i

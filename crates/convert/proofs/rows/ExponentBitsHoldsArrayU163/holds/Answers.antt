@@ -1,4 +1,4 @@
-use Rattle.std.proofs.Common.{◌≡◌, ℕ, ◌/◌, ◌%◌, ◌^◌, Bool, true, ◌&&◌, eqb, ltb, get_or, sym, ap, ◌∙◌}
+use Rattle.std.proofs.Common.{◌/◌, ◌%◌, ◌^◌, ◌&&◌, eqb, get_or, sym, ap, ◌∙◌}
 use lib.Bits.{and_mask}
 use Rattle.std.proofs.lemmas.Bool.{lt-ltb}
 use Rattle.convert.proofs.rows.ExponentBitsHoldsArrayU163.holds.Goals as goal
