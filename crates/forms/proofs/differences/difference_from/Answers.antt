@@ -7,13 +7,13 @@ pub loop-i-preserved-then-a-b : goal.loop-i-preserved-then-a-b
 loop-i-preserved-then-a-b c =
     let us = c.args.left.now in
     let vs = c.args.right.now in
-    let a = c.row-of-a.result in
-    let b = c.row-of-b.result in
+    let a = c.row_of-a.result in
+    let b = c.row_of-b.result in
     let w =
     walk_apart (drop c.args.i us) (drop c.args.j vs) (drop c.loop-i.i us) (drop c.loop-i.j vs) c.loop-i.best c.loop-i.invariant.2 c.leading-set.result c.leading-set.ensures.occurs
-    a.code b.code (drop a.next us) (drop b.next vs) c.row-of-a.ensures.taken c.row-of-b.ensures.taken c.if-a-b.true in (
-      c.row-of-a.ensures.to,
-      c.row-of-b.ensures.to,
+    a.code b.code (drop a.next us) (drop b.next vs) c.row_of-a.ensures.taken c.row_of-b.ensures.taken c.if-a-b.true in (
+      c.row_of-a.ensures.to,
+      c.row_of-b.ensures.to,
       subst (λ s. Walked (drop c.args.i us) (drop c.args.j vs) (drop a.next us) (drop b.next vs) (Some s)) (sym c.fewer.ensures) w,
     )
 
@@ -21,12 +21,12 @@ pub loop-i-preserved : goal.loop-i-preserved
 loop-i-preserved c =
     let us = c.args.left.now in
     let vs = c.args.right.now in
-    let a = c.row-of-a.result in
-    let b = c.row-of-b.result in (
-      c.row-of-a.ensures.to,
-      c.row-of-b.ensures.to,
+    let a = c.row_of-a.result in
+    let b = c.row_of-b.result in (
+      c.row_of-a.ensures.to,
+      c.row_of-b.ensures.to,
       walk_same (drop c.args.i us) (drop c.args.j vs) (drop c.loop-i.i us) (drop c.loop-i.j vs) c.loop-i.best c.loop-i.invariant.2 c.leading-set.result c.leading-set.ensures.occurs
-          a.code b.code (drop a.next us) (drop b.next vs) c.row-of-a.ensures.taken c.row-of-b.ensures.taken c.if-a-b.false,
+          a.code b.code (drop a.next us) (drop b.next vs) c.row_of-a.ensures.taken c.row_of-b.ensures.taken c.if-a-b.false,
     )
 
 pub returns : goal.returns

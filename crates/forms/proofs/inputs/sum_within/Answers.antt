@@ -5,13 +5,13 @@ use Rattle.terms.specs.Sets.{holds}
 use Rattle.terms.specs.Values.{value_under}
 use Rattle.forms.proofs.Sums.{sum_on, sum_off}
 use Rattle.forms.proofs.inputs.sum_within.Goals as goal
-use Rattle.forms.proofs.inputs.sum_within.Goals.{then-is-subset, else-is-subset}
+use Rattle.forms.proofs.inputs.sum_within.Goals.{then-is_subset, else-is_subset}
 
 pub loop-term-preserved : goal.loop-term-preserved
 loop-term-preserved c =
-    elim c.if-is-subset.branch [
-      | then-is-subset w ↦ sum_on (holds c.args.input) c.args.terms.now c.loop-term.term-index c.loop-term.sum _ c.loop-term-test.true c.loop-term.invariant c.if-is-subset.sum w.sum-is w.if-is-subset.ensures
-      | else-is-subset w ↦ sum_off (holds c.args.input) c.args.terms.now c.loop-term.term-index c.loop-term.sum _ c.loop-term-test.true c.loop-term.invariant c.if-is-subset.sum w.sum-is w.if-is-subset.ensures
+    elim c.if-is_subset.branch [
+      | then-is_subset w ↦ sum_on (holds c.args.input) c.args.terms.now c.loop-term.term-index c.loop-term.sum _ c.loop-term-test.true c.loop-term.invariant c.if-is_subset.sum w.sum-is w.if-is_subset.ensures
+      | else-is_subset w ↦ sum_off (holds c.args.input) c.args.terms.now c.loop-term.term-index c.loop-term.sum _ c.loop-term-test.true c.loop-term.invariant c.if-is_subset.sum w.sum-is w.if-is_subset.ensures
     ]
 
 pub returns : goal.returns
