@@ -1,5 +1,5 @@
 -- The number, the part and the place of each refusal, and the line that the program writes for it. Assumes nothing.
-use Rattle.std.specs.Prelude.{ℕ, List, [], ◌∷◌, ◌++◌, codes, decimal}
+use Rattle.std.specs.Prelude.{ℕ, List, ◌++◌, codes, decimal}
 use Rattle.fault.specs.declared.Fault.{Fault}
 use Rattle.fault.specs.declared.Fault.TheVariants.{PolynomialOutOfRange, PolynomialReducible, BaseTooWide, TowerConstant, WrongForm, SizesOutOfRange, SizesNotTheShelfs, NetNotDriven, TooManyNets, LineMissing, BytesAfterOut, JobTooLong, NoSuchDrawer, DrawerFilled, DrawerEmpty, WordOutOfRange, BadCardRow, BitTableFull, TooManyBitTerms, ProductTableFull, CardTableFull}
 use Rattle.fault.specs.declared.Part.{Part}

@@ -1,4 +1,6 @@
 // Refusals: why a call is refused, in which part of the product, and where.
+#![tactic(auto)]
+
 ghost use Rattle.std.specs.Prelude.{◌≡◌, Some};
 ghost use Rattle.fault.specs.Faults.{number, part, place, part_name, refusal_line};
 
