@@ -1,9 +1,9 @@
 -- What the working ends in. Assumes nothing.
-use Rattle.std.proofs.Common.{◌≡◌, ℕ, suc, ◌+◌, ◌-◌, ◌*◌, ◌^◌, ◌<◌, ◌≤◌, Bool, true, false, cond, not, ◌&&◌, ◌||◌, eqb, ◌⊎◌, List, [], ◌∷◌, map, length, get_or, sym, refl, ap, ◌∙◌, subst, ap₂, ⊎_elim, mul_assoc, add-mul, zero-mul, mul-one, arith, pow_pos}
+use Rattle.std.proofs.Common.{◌≡◌, ℕ, suc, ◌+◌, ◌-◌, ◌*◌, ◌^◌, ◌<◌, ◌≤◌, Bool, true, false, cond, not, ◌&&◌, ◌||◌, eqb, List, [], ◌∷◌, map, length, get_or, sym, refl, ap, ◌∙◌, subst, ap₂, ⊎_elim, mul_assoc, add-mul, zero-mul, mul-one, arith, pow_pos}
 use lib.Bits.{bit_xor, xor_zero_r, xor_comm, xor_shifted, xor_lt}
 use lib.Pow.{pow-lt}
 use Rattle.std.proofs.lemmas.Bool.{cases_order, eqb-true, eq-eqb, or_cases, and_parts, true≢false}
-use Rattle.terms.specs.Terms.{value, Monos, Under}
+use Rattle.terms.specs.Terms.{Monos, Under}
 use Rattle.terms.specs.Nets.{net_model}
 use Rattle.terms.specs.declared.Term.{Term}
 use Rattle.terms.specs.declared.nets.NetSet.{NetSet}
@@ -11,7 +11,7 @@ use Rattle.terms.proofs.Laws.{added_codes, added_monos, added_falling, added_non
 use Rattle.terms.specs.BothKinds.{net_laws}
 use Rattle.netlist.specs.declared.gate.Gate.{Gate}
 use Rattle.netlist.specs.declared.gate.Gate.TheVariants.{And, Or, Xor, Nand, Nor, Xnor, Not, Buf, Zero, One}
-use Rattle.netlist.specs.Circuits.{Circuit, WellFormed, Below, nets_of, inputs, nets}
+use Rattle.netlist.specs.Circuits.{Circuit, WellFormed, Below, nets_of, inputs}
 use Rattle.netlist.specs.Meaning.{tail, bit, word, output, input_bits}
 use Rattle.netlist.proofs.Formed.{few_nets, driven_reads}
 use Rattle.netlist.proofs.Inputs.{inputs_placed_lem}

@@ -1,7 +1,7 @@
 -- Each turn of the reduction: what comes in, what it leaves, and that the leading set falls. Assumes nothing.
-use Rattle.std.proofs.Common.{◌≡◌, ℕ, suc, ◌+◌, ◌-◌, ◌<◌, ◌≤◌, true, false, not, ◌&&◌, ◌||◌, eqb, ◌⊎◌, List, [], ◌∷◌, length, get_or, Some, None, Option, sym, refl, ap, ◌∙◌, subst, ⊎_elim, suc-le-suc, zero-le, arith}
+use Rattle.std.proofs.Common.{◌≡◌, ℕ, suc, ◌+◌, ◌-◌, ◌<◌, ◌≤◌, true, false, not, ◌&&◌, ◌||◌, eqb, List, [], ◌∷◌, length, get_or, Some, None, Option, sym, refl, ap, ◌∙◌, subst, ⊎_elim, suc-le-suc, zero-le, arith}
 use Rattle.std.proofs.lemmas.Bool.{cases_Bool}
-use Rattle.terms.specs.Terms.{term, Monos, Under}
+use Rattle.terms.specs.Terms.{Monos, Under}
 use Rattle.terms.specs.Lent.{live, capacity, Off}
 use Rattle.terms.specs.Nets.{net_model}
 use Rattle.terms.specs.declared.Term.{Term}

@@ -1,12 +1,12 @@
 -- Each step of the working keeps the value of the terms. Assumes nothing.
-use Rattle.std.proofs.Common.{◌≡◌, ℕ, ◌-◌, ◌<◌, Bool, true, false, cond, not, ◌&&◌, ◌||◌, eqb, List, [], ◌∷◌, sym, refl, ap, ◌∙◌, ap₂}
+use Rattle.std.proofs.Common.{◌≡◌, ℕ, ◌<◌, Bool, true, false, cond, not, ◌&&◌, ◌||◌, eqb, List, [], ◌∷◌, sym, refl, ap, ◌∙◌, ap₂}
 use lib.Bits.{bit_xor, xor_zero_l}
 use Rattle.terms.specs.Terms.{added}
 use Rattle.terms.specs.Nets.{net_model}
 use Rattle.terms.specs.declared.Term.{Term}
 use Rattle.terms.specs.declared.nets.NetSet.{NetSet}
 use Rattle.netlist.specs.Circuits.{Below}
-use Rattle.netlist.specs.Meaning.{tail, parity}
+use Rattle.netlist.specs.Meaning.{parity}
 use Rattle.netlist.specs.Meaning.{all_on}
 use Rattle.terms.specs.Sets.{holds, among}
 use Rattle.terms.specs.Additions.{done, adding}

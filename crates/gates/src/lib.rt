@@ -1,4 +1,7 @@
 // From gates to bits: the algebraic normal form of a netlist's output word.
+
+#![tactic(auto)]
+
 mod tail;
 mod work;
 

@@ -13,9 +13,9 @@ use Rattle.gates.proofs.work.add_tail.Goals as goal
 abbrev empty : NetSet
 empty = record { words = [] }
 
-pub returns-in-err-add : goal.returns-in-err-add
-returns-in-err-add c =
-    let p = err_from_is_err_and c.from-residual.result c.from-residual.ensures.1 in
+pub returns-in_err-add : goal.returns-in_err-add
+returns-in_err-add c =
+    let p = err_from_is_err_and c.from_residual.result c.from_residual.ensures.1 in
     let tail = c.args.tail.now in
     let us = take tail.len tail.sets in
     let code = c.args.code in
@@ -24,9 +24,9 @@ returns-in-err-add c =
     let cap = capacity c.args.table.now in
     let lu : length us ≡ tail.len = length-take-le tail.len tail.sets (omega (arith, tail.few, tail.all)) in
     let row : get_or us i empty ≡ get_or tail.sets i empty = get_or-take tail.len tail.sets i empty c.loop-i-test.true in
-    let s = c.in-err-add.ensures.sum in
+    let s = c.in_err-add.ensures.sum in
     rw p.1 (record {
-      same = c.in-err-add.ensures.same ∙ c.loop-i.invariant.1;
+      same = c.in_err-add.ensures.same ∙ c.loop-i.invariant.1;
       room = ap length s.kept ∙ c.loop-i.invariant.2;
       sound = subst₂ (Table net_model) (sym s.kept) (sym s.len) c.loop-i.invariant.0;
       sum = sym c.loop-i.invariant.3
@@ -45,9 +45,9 @@ loop-i-preserved c =
     let cap = capacity c.args.table.now in
     let lu : length us ≡ tail.len = length-take-le tail.len tail.sets (omega (arith, tail.few, tail.all)) in
     let row : get_or us i empty ≡ get_or tail.sets i empty = get_or-take tail.len tail.sets i empty c.loop-i-test.true in
-    let s = c.in-ok-add.ensures.sum in (
+    let s = c.in_ok-add.ensures.sum in (
       s.table,
-      c.in-ok-add.ensures.same ∙ c.loop-i.invariant.1,
+      c.in_ok-add.ensures.same ∙ c.loop-i.invariant.1,
       s.room ∙ c.loop-i.invariant.2,
       sym (at_drop_more (λ xs. adding net_model cap (each code xs) (live t)) us i empty (omega (arith, c.loop-i-test.true))
           ∙ ap (λ u. adding net_model cap (term code u ∷ each code (drop (i + 1) us)) (live t)) row

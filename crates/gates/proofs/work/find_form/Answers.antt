@@ -13,29 +13,29 @@ use Rattle.gates.proofs.Once.{one_end}
 use Rattle.gates.proofs.Sole.{only_form}
 use Rattle.gates.proofs.work.find_form.Goals as goal
 
-pub returns-in-default : goal.returns-in-default
-returns-in-default c =
+pub returns-in_default : goal.returns-in_default
+returns-in_default c =
     let k = circuit c.args.net.now in
     let cap = capacity c.args.table.now in
     let us = live c.reduce.new.table in
-    let s = c.in-default.ensures in
+    let s = c.in_default.ensures in
     record {
       same = c.clear.ensures.same ∙ s.same;
       answer = (no_row us s.worked (λ d w. one_end laws_of_sets k cap d (full us) w s.worked), c.clear.ensures.zero ∙ ap (λ n. replicate n (blank net_model)) s.room);
     }
 
-pub returns-then-count-gt-MAX-TERMS : goal.returns-then-count-gt-MAX-TERMS
-returns-then-count-gt-MAX-TERMS c =
+pub returns-then-count-gt-MAX_TERMS : goal.returns-then-count-gt-MAX_TERMS
+returns-then-count-gt-MAX_TERMS c =
     let k = circuit c.args.net.now in
     let cap = capacity c.args.table.now in
     let t = c.reduce.new.table in
     let us = live t in
     let s = c.in-Ok.ensures in
     let l : length us ≡ t.len = length-take-le t.len t.rows.now s.sound.within in
-    let m : 256 < length us = omega (arith, c.len-count.ensures, c.if-count-gt-MAX-TERMS.true) in
+    let m : 256 < length us = omega (arith, c.len-count.ensures, c.if-count-gt-MAX_TERMS.true) in
     record {
-      same = c.clear-then-count-gt-MAX-TERMS.ensures.same ∙ s.same;
-      answer = (too_many us s.worked (λ d w. one_end laws_of_sets k cap d (done us) w s.worked) m, c.clear-then-count-gt-MAX-TERMS.ensures.zero ∙ ap (λ n. replicate n (blank net_model)) s.room);
+      same = c.clear-then-count-gt-MAX_TERMS.ensures.same ∙ s.same;
+      answer = (too_many us s.worked (λ d w. one_end laws_of_sets k cap d (done us) w s.worked) m, c.clear-then-count-gt-MAX_TERMS.ensures.zero ∙ ap (λ n. replicate n (blank net_model)) s.room);
     }
 
 pub returns : goal.returns
@@ -48,7 +48,7 @@ returns c =
     let l : length us ≡ t.len = length-take-le t.len t.rows.now s.sound.within in
     let n : c.len-count.result ≡ length us = c.len-count.ensures ∙ sym l in
     let form = values_kept laws_of_sets k cap (done us) (formed c.args.net.now) s.worked in
-    let few : length us ≤ 256 = omega (arith, c.len-count.ensures, c.if-count-gt-MAX-TERMS.false) in
+    let few : length us ≤ 256 = omega (arith, c.len-count.ensures, c.if-count-gt-MAX_TERMS.false) in
     let rows : t.rows.now ≡ padded net_model cap us =
     sym (take-append-drop t.len t.rows.now) ∙ ap (λ xs. us ++ xs) (s.sound.rest ∙ ap₂ (λ a b. replicate (a - b) (blank net_model)) s.room (sym l)) in
     record {

@@ -10,25 +10,25 @@ use Rattle.gates.specs.Tails.{ended}
 use Rattle.gates.proofs.Outs.{out_terms, outs_are, below_few, starts, goes_on, stops_there}
 use Rattle.gates.proofs.work.reduce.Goals as goal
 
-pub returns-in-err-add-outs : goal.returns-in-err-add-outs
-returns-in-err-add-outs c =
-    let p = err_from_is_err_and c.from-residual.result c.from-residual.ensures.1 in
+pub returns-in_err-add_outs : goal.returns-in_err-add_outs
+returns-in_err-add_outs c =
+    let p = err_from_is_err_and c.from_residual.result c.from_residual.ensures.1 in
     let k = circuit c.args.net.now in
     let w = formed c.args.net.now in
     let cap = capacity c.args.table.now in
-    let us = live c.add-outs.new.table in
-    let s = c.in-err-add-outs.ensures in
+    let us = live c.add_outs.new.table in
+    let s = c.in_err-add_outs.ensures in
     let f : adding net_model cap (out_terms 0 k.outs) [] ≡ full us =
     subst (λ ts. adding net_model cap (out_terms 0 k.outs) ts ≡ full us) c.requires.empty (s.sum (out_terms 0 k.outs) (outs_are 0 k.outs (below_few k w))) in
     rw p.1 (record { same = s.same; room = s.room; sound = s.sound; worked = stops_there k cap us w f })
 
-pub replace-gates-requires : goal.replace-gates-requires
-replace-gates-requires c =
+pub replace_gates-requires : goal.replace_gates-requires
+replace_gates-requires c =
     let k = circuit c.args.net.now in
     let w = formed c.args.net.now in
     let cap = capacity c.args.table.now in
-    let us = live c.add-outs.new.table in
-    let s = c.in-ok-add-outs.ensures in
+    let us = live c.add_outs.new.table in
+    let s = c.in_ok-add_outs.ensures in
     let don : adding net_model cap (out_terms 0 k.outs) [] ≡ done us =
     subst (λ ts. adding net_model cap (out_terms 0 k.outs) ts ≡ done us) c.requires.empty (s.sum (out_terms 0 k.outs) (outs_are 0 k.outs (below_few k w))) in
     record { sound = s.sound; terms = starts k cap us w don }
@@ -38,12 +38,12 @@ returns c =
     let k = circuit c.args.net.now in
     let w = formed c.args.net.now in
     let cap = capacity c.args.table.now in
-    let us = live c.add-outs.new.table in
-    let s = c.in-ok-add-outs.ensures in
+    let us = live c.add_outs.new.table in
+    let s = c.in_ok-add_outs.ensures in
     let don : adding net_model cap (out_terms 0 k.outs) [] ≡ done us =
     subst (λ ts. adding net_model cap (out_terms 0 k.outs) ts ≡ done us) c.requires.empty (s.sum (out_terms 0 k.outs) (outs_are 0 k.outs (below_few k w))) in
-    let r = c.replace-gates.ensures in
-    let e = ended c.replace-gates.result (live c.replace-gates.new.table) in
+    let r = c.replace_gates.ensures in
+    let e = ended c.replace_gates.result (live c.replace_gates.new.table) in
     record {
       same = r.same ∙ s.same;
       room = r.room ∙ s.room;

@@ -16,8 +16,8 @@ use Rattle.gates.specs.Forms.{Terms-of}
 use Rattle.gates.proofs.Falls.{led, ends_bits, ends_empty, joins_tail, turn_terms, turn_falls, turn_on, turn_stops}
 use Rattle.gates.proofs.work.replace_gates.Goals as goal
 
-pub returns-in-default-greatest : goal.returns-in-default-greatest
-returns-in-default-greatest c =
+pub returns-in_default-greatest : goal.returns-in_default-greatest
+returns-in_default-greatest c =
     let t = c.loop-lead.table in
     let k = circuit c.args.net.now in
     let b = c.in-Some.ensures in
@@ -25,18 +25,18 @@ returns-in-default-greatest c =
       same = c.loop-lead.invariant.1;
       room = c.loop-lead.invariant.2;
       sound = c.loop-lead.invariant.0;
-      end = c.loop-lead.invariant.4 (done (live t)) (ends_bits k (capacity c.args.table.now) (live t) b.0 c.in-Some.lead b.1 (λ g e. never (sym e ∙ c.in-default-greatest.ensures g)));
+      end = c.loop-lead.invariant.4 (done (live t)) (ends_bits k (capacity c.args.table.now) (live t) b.0 c.in-Some.lead b.1 (λ g e. never (sym e ∙ c.in_default-greatest.ensures g)));
     }
 
-pub returns-in-default-driver : goal.returns-in-default-driver
-returns-in-default-driver c =
+pub returns-in_default-driver : goal.returns-in_default-driver
+returns-in_default-driver c =
     let t = c.loop-lead.table in
     let k = circuit c.args.net.now in
     let b = c.in-Some.ensures in
     let top = c.in-Some-greatest.ensures in
     let g = c.in-Some-greatest.g in
     let high : g < nets k = (subst (Terms-of k) b.1 c.loop-lead.invariant.3).driven.0 g top.has in
-    let input : g < inputs k = ⊎_elim (λ l. l) (λ l. absurd (c.in-default-driver.ensures l high)) (cases_lt g (inputs k)) in
+    let input : g < inputs k = ⊎_elim (λ l. l) (λ l. absurd (c.in_default-driver.ensures l high)) (cases_lt g (inputs k)) in
     record {
       same = c.loop-lead.invariant.1;
       room = c.loop-lead.invariant.2;
@@ -48,7 +48,7 @@ returns-in-default-driver c =
 pub loop-lead-smaller : goal.loop-lead-smaller
 loop-lead-smaller c =
     let t = c.loop-lead.table in
-    let t' = c.take-lead.new.self in
+    let t' = c.take_lead.new.self in
     let k = circuit c.args.net.now in
     let w = formed c.args.net.now in
     let cap = capacity c.args.table.now in
@@ -56,23 +56,23 @@ loop-lead-smaller c =
     let g = c.in-Some-greatest.g in
     let top = c.in-Some-greatest.ensures in
     let drives = c.in-Some-driver.ensures in
-    let us = take c.tail-of-tail.result.len c.tail-of-tail.result.sets in
+    let us = take c.tail_of-tail.result.len c.tail_of-tail.result.sets in
     let adds = each lead.code us in
-    let ts'' = live c.add-tail.new.table in
-    let off = led c.take-lead.result t t' lead c.in-Some.ensures.0 c.take-lead.ensures.off c.in-Some.ensures.1 in
+    let ts'' = live c.add_tail.new.table in
+    let off = led c.take_lead.result t t' lead c.in-Some.ensures.0 c.take_lead.ensures.off c.in-Some.ensures.1 in
     let first : live t ≡ lead ∷ live t' = off.0 in
     let low : inputs k ≤ g = drives.0 in
     let tl : TailTerms lead.code lead.mono g (tail (get_or k.gates (g - inputs k) Zero)) adds =
     joins_tail lead.code lead.mono c.without.result g c.without.ensures.members (tail (get_or k.gates (g - inputs k) Zero)) us
-    (subst (λ x. Joins c.without.result (tail x) us) drives.2 c.tail-of-tail.ensures) in
+    (subst (λ x. Joins c.without.result (tail x) us) drives.2 c.tail_of-tail.ensures) in
     let room : capacity t' ≡ cap = off.1 ∙ c.loop-lead.invariant.2 in
-    let don : adding net_model cap adds (live t') ≡ done ts'' = subst (λ n. adding net_model n adds (live t') ≡ done ts'') room c.in-ok-add-tail.ensures.sum in
+    let don : adding net_model cap adds (live t') ≡ done ts'' = subst (λ n. adding net_model n adds (live t') ≡ done ts'') room c.in_ok-add_tail.ensures.sum in
     turn_falls k w cap lead (live t) (live t') adds ts'' g first top low tl c.loop-lead.invariant.3 don
 
 pub loop-lead-preserved : goal.loop-lead-preserved
 loop-lead-preserved c =
     let t = c.loop-lead.table in
-    let t' = c.take-lead.new.self in
+    let t' = c.take_lead.new.self in
     let k = circuit c.args.net.now in
     let w = formed c.args.net.now in
     let cap = capacity c.args.table.now in
@@ -80,30 +80,30 @@ loop-lead-preserved c =
     let g = c.in-Some-greatest.g in
     let top = c.in-Some-greatest.ensures in
     let drives = c.in-Some-driver.ensures in
-    let us = take c.tail-of-tail.result.len c.tail-of-tail.result.sets in
+    let us = take c.tail_of-tail.result.len c.tail_of-tail.result.sets in
     let adds = each lead.code us in
-    let ts'' = live c.add-tail.new.table in
-    let off = led c.take-lead.result t t' lead c.in-Some.ensures.0 c.take-lead.ensures.off c.in-Some.ensures.1 in
+    let ts'' = live c.add_tail.new.table in
+    let off = led c.take_lead.result t t' lead c.in-Some.ensures.0 c.take_lead.ensures.off c.in-Some.ensures.1 in
     let first : live t ≡ lead ∷ live t' = off.0 in
     let low : inputs k ≤ g = drives.0 in
     let tl : TailTerms lead.code lead.mono g (tail (get_or k.gates (g - inputs k) Zero)) adds =
     joins_tail lead.code lead.mono c.without.result g c.without.ensures.members (tail (get_or k.gates (g - inputs k) Zero)) us
-    (subst (λ x. Joins c.without.result (tail x) us) drives.2 c.tail-of-tail.ensures) in
+    (subst (λ x. Joins c.without.result (tail x) us) drives.2 c.tail_of-tail.ensures) in
     let room : capacity t' ≡ cap = off.1 ∙ c.loop-lead.invariant.2 in
-    let s = c.in-ok-add-tail.ensures in
+    let s = c.in_ok-add_tail.ensures in
     let don : adding net_model cap adds (live t') ≡ done ts'' = subst (λ n. adding net_model n adds (live t') ≡ done ts'') room s.sum in (
       s.sound,
-      s.same ∙ c.take-lead.ensures.same ∙ c.loop-lead.invariant.1,
+      s.same ∙ c.take_lead.ensures.same ∙ c.loop-lead.invariant.1,
       s.room ∙ room,
       turn_terms k w cap lead (live t) (live t') adds ts'' g first top low tl c.loop-lead.invariant.3 don,
       λ e r. c.loop-lead.invariant.4 e (turn_on k w cap lead (live t) (live t') adds ts'' g first top low tl c.loop-lead.invariant.3 e don r),
     )
 
-pub returns-in-err-add-tail : goal.returns-in-err-add-tail
-returns-in-err-add-tail c =
-    let p = err_from_is_err_and c.from-residual.result c.from-residual.ensures.1 in
+pub returns-in_err-add_tail : goal.returns-in_err-add_tail
+returns-in_err-add_tail c =
+    let p = err_from_is_err_and c.from_residual.result c.from_residual.ensures.1 in
     let t = c.loop-lead.table in
-    let t' = c.take-lead.new.self in
+    let t' = c.take_lead.new.self in
     let k = circuit c.args.net.now in
     let w = formed c.args.net.now in
     let cap = capacity c.args.table.now in
@@ -111,20 +111,20 @@ returns-in-err-add-tail c =
     let g = c.in-Some-greatest.g in
     let top = c.in-Some-greatest.ensures in
     let drives = c.in-Some-driver.ensures in
-    let us = take c.tail-of-tail.result.len c.tail-of-tail.result.sets in
+    let us = take c.tail_of-tail.result.len c.tail_of-tail.result.sets in
     let adds = each lead.code us in
-    let ts'' = live c.add-tail.new.table in
-    let off = led c.take-lead.result t t' lead c.in-Some.ensures.0 c.take-lead.ensures.off c.in-Some.ensures.1 in
+    let ts'' = live c.add_tail.new.table in
+    let off = led c.take_lead.result t t' lead c.in-Some.ensures.0 c.take_lead.ensures.off c.in-Some.ensures.1 in
     let first : live t ≡ lead ∷ live t' = off.0 in
     let low : inputs k ≤ g = drives.0 in
     let tl : TailTerms lead.code lead.mono g (tail (get_or k.gates (g - inputs k) Zero)) adds =
     joins_tail lead.code lead.mono c.without.result g c.without.ensures.members (tail (get_or k.gates (g - inputs k) Zero)) us
-    (subst (λ x. Joins c.without.result (tail x) us) drives.2 c.tail-of-tail.ensures) in
+    (subst (λ x. Joins c.without.result (tail x) us) drives.2 c.tail_of-tail.ensures) in
     let room : capacity t' ≡ cap = off.1 ∙ c.loop-lead.invariant.2 in
-    let s = c.in-err-add-tail.ensures in
+    let s = c.in_err-add_tail.ensures in
     let f : adding net_model cap adds (live t') ≡ full ts'' = subst (λ n. adding net_model n adds (live t') ≡ full ts'') room s.sum in
     rw p.1 (record {
-      same = s.same ∙ c.take-lead.ensures.same ∙ c.loop-lead.invariant.1;
+      same = s.same ∙ c.take_lead.ensures.same ∙ c.loop-lead.invariant.1;
       room = s.room ∙ room;
       sound = s.sound;
       end = c.loop-lead.invariant.4 (full ts'') (turn_stops k w cap lead (live t) (live t') adds ts'' g first top low tl c.loop-lead.invariant.3 f);
@@ -135,5 +135,5 @@ returns c = record {
   same = c.loop-lead.invariant.1;
   room = c.loop-lead.invariant.2;
   sound = c.loop-lead.invariant.0;
-  end = c.loop-lead.invariant.4 (done (live c.loop-lead.table)) (ends_empty (circuit c.args.net.now) (capacity c.args.table.now) (live c.loop-lead.table) c.in-default.ensures);
+  end = c.loop-lead.invariant.4 (done (live c.loop-lead.table)) (ends_empty (circuit c.args.net.now) (capacity c.args.table.now) (live c.loop-lead.table) c.in_default.ensures);
 }

@@ -8,8 +8,8 @@ returns-then-x-first-2 c low high =
     let all = all_nets c.args.self.now in
     omega (arith, c.inputs-first.ensures)
 
-pub offset-bounds-self-x : goal.offset-bounds-self-x
-offset-bounds-self-x c =
+pub offset_bounds-self-x : goal.offset_bounds-self-x
+offset_bounds-self-x c =
     let few = few_places c.args.self.now in
     omega (arith, c.inputs-first.ensures)
 

@@ -2,8 +2,8 @@ use Rattle.std.proofs.Common.{arith}
 use Rattle.netlist.proofs.Formed.{formed, few_nets, few_places, all_nets}
 use Rattle.netlist.proofs.circuit.Netlist.nets.Goals as goal
 
-pub overflow-add-result : goal.overflow-add-result
-overflow-add-result c =
+pub overflow_add-result : goal.overflow_add-result
+overflow_add-result c =
     let few = few_places c.args.self.now in
     omega (arith, c.inputs.ensures)
 
