@@ -28,7 +28,7 @@ fn work<F: Field>(
     requires { n ≤ 3 }
     ensures first { first.new ≡ replicate (length first.old) (blank net_model) }
     ensures second { second.new ≡ replicate (length second.old) (blank net_model) }
-    ensures bits { BitsAnswered (model field.now) n (min (length first.old) (length second.old)) (length bits.old) card.now bits.new result }
+    ensures bits { BitsAnswered (F.model field.now) n (min (length first.old) (length second.old)) (length bits.old) card.now bits.new result }
 {
     let width = field.width() as usize;
     let places = ExponentBits { width };
@@ -62,7 +62,7 @@ pub fn to_bits<F: Field>(
 ) -> Result<usize, Fault>
     ensures first { first.new ≡ replicate (length first.old) (blank net_model) }
     ensures second { second.new ≡ replicate (length second.old) (blank net_model) }
-    ensures bits { BitsAnswered (model field.now) (word_count n) (min (length first.old) (length second.old)) (length bits.old) card.now bits.new result }
+    ensures bits { BitsAnswered (F.model field.now) (word_count n) (min (length first.old) (length second.old)) (length bits.old) card.now bits.new result }
 {
     work(field, n.max(1).min(3), card, first, second, bits)
 }

@@ -51,14 +51,14 @@ fn add_codes<F: Field>(
     bits: &[Term<NetSet>],
     out: &mut TermTable<[u16; 3]>,
 ) -> Result<(), Full>
-    requires words { OfWords (model field.now) (exp_model kind.now.tops) }
-    requires codes { Codes (λ c. c < size (model field.now)) bits.now }
+    requires words { OfWords (F.model field.now) (exp_model kind.now.tops) }
+    requires codes { Codes (λ c. c < size (F.model field.now)) bits.now }
     requires sound { Sound (exp_model kind.now.tops) out.old }
-    requires own { OwnTerms (model field.now) (exp_model kind.now.tops) (live out.old) }
+    requires own { OwnTerms (F.model field.now) (exp_model kind.now.tops) (live out.old) }
     ensures same { out.new.rows.ghost_name ≡ out.old.rows.ghost_name }
     ensures room { capacity out.new ≡ capacity out.old }
     ensures sound { Sound (exp_model kind.now.tops) out.new }
-    ensures sum { elim result [ Ok _ ↦ Gained (model field.now) (exp_model kind.now.tops) 0 bits.now (live out.old) (live out.new) | Err _ ↦ Unit {0} ] }
+    ensures sum { elim result [ Ok _ ↦ Gained (F.model field.now) (exp_model kind.now.tops) 0 bits.now (live out.old) (live out.new) | Err _ ↦ Unit {0} ] }
 {
     for i in 0..bits.len() {
         let code = bits[i].code;
@@ -76,15 +76,15 @@ fn add_nested<F: Field>(
     p: usize,
     out: &mut TermTable<[u16; 3]>,
 ) -> Result<(), Full>
-    requires prepared { Prepared (model field.now) (exp_model kind.now.tops) factors.now }
+    requires prepared { Prepared (F.model field.now) (exp_model kind.now.tops) factors.now }
     requires place { p ≤ factors.now.places }
-    requires codes { Codes (λ c. c < size (model field.now)) bits.now }
+    requires codes { Codes (λ c. c < size (F.model field.now)) bits.now }
     requires sound { Sound (exp_model kind.now.tops) out.old }
-    requires own { OwnTerms (model field.now) (exp_model kind.now.tops) (live out.old) }
+    requires own { OwnTerms (F.model field.now) (exp_model kind.now.tops) (live out.old) }
     ensures same { out.new.rows.ghost_name ≡ out.old.rows.ghost_name }
     ensures room { capacity out.new ≡ capacity out.old }
     ensures sound { Sound (exp_model kind.now.tops) out.new }
-    ensures sum { elim result [ Ok _ ↦ Gained (model field.now) (exp_model kind.now.tops) p bits.now (live out.old) (live out.new) | Err _ ↦ Unit {0} ] }
+    ensures sum { elim result [ Ok _ ↦ Gained (F.model field.now) (exp_model kind.now.tops) p bits.now (live out.old) (live out.new) | Err _ ↦ Unit {0} ] }
 {
     if p == 0 {
         return add_codes(kind, field, bits, out);
@@ -116,9 +116,9 @@ fn nested_card<F: Field>(
     bits: &[Term<NetSet>],
     card: &mut [Term<[u16; 3]>],
 ) -> Result<usize, Full>
-    requires prepared { Prepared (model field.now) (exp_model kind.now.tops) factors.now }
-    requires codes { Codes (λ c. c < size (model field.now)) bits.now }
-    ensures { elim result [ Ok n ↦ Table (exp_model kind.now.tops) card.new n × Gained (model field.now) (exp_model kind.now.tops) factors.now.places bits.now [] (take n card.new) | Err _ ↦ Unit {0} ] }
+    requires prepared { Prepared (F.model field.now) (exp_model kind.now.tops) factors.now }
+    requires codes { Codes (λ c. c < size (F.model field.now)) bits.now }
+    ensures { elim result [ Ok n ↦ Table (exp_model kind.now.tops) card.new n × Gained (F.model field.now) (exp_model kind.now.tops) factors.now.places bits.now [] (take n card.new) | Err _ ↦ Unit {0} ] }
 {
     let mut out = TermTable::new(kind, card);
     add_nested(kind, field, factors, bits, factors.places, &mut out)?;
@@ -166,7 +166,7 @@ fn rows_suffice(order: u16, n: usize, cap: usize, count: usize) -> bool
 // Whether the working is sure to go to its end, with product tables of `cap` rows and a card table of `count` rows.
 fn certain<F: Field>(field: &F, n: usize, bits: &[Term<NetSet>], cap: usize, count: usize) -> bool
     requires { n ≤ 3 }
-    ensures { T result → Finishes (model field.now) n cap count bits.now }
+    ensures { T result → Finishes (F.model field.now) n cap count bits.now }
 {
     let order = field.order();
     if rows_suffice(order, n, cap, count) {
@@ -186,7 +186,7 @@ pub(crate) fn nested_answer<F: Field>(
     card: &mut [Term<[u16; 3]>],
 ) -> Option<usize>
     requires { n ≤ 3 }
-    ensures { NestedEnd (model field.now) n cap (length card.old) bits.now card.new result }
+    ensures { NestedEnd (F.model field.now) n cap (length card.old) bits.now card.new result }
 {
     let width = field.width() as usize;
     let order = field.order();

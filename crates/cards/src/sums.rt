@@ -12,8 +12,8 @@ use terms::{Kind, Term};
 
 // x, x^2, x^4, … x^128: each is the square of the one before it.
 fn squares<F: Field>(field: &F, x: u16) -> [u16; 8]
-    requires { x < size (model field.now) }
-    ensures { (j : ℕ) → j < 8 → slice_index result j ≡ power (model field.now) x (2 ^ j) }
+    requires { x < size (F.model field.now) }
+    ensures { (j : ℕ) → j < 8 → slice_index result j ≡ power (F.model field.now) x (2 ^ j) }
 {
     let mut row = [0; 8];
     let mut y = x;
@@ -36,7 +36,7 @@ fn at_word(w: usize, e: u16) -> [u16; 3]
 
 // Row i: the dual of bit i, and its squares.
 fn dual_squares<F: Field>(field: &F) -> [[u16; 8]; 8]
-    ensures { DualSquares (model field.now) result }
+    ensures { DualSquares (F.model field.now) result }
 {
     let ds = duals(field);
     let mut rows = [[0; 8]; 8];
@@ -49,7 +49,7 @@ fn dual_squares<F: Field>(field: &F) -> [[u16; 8]; 8]
 // The sums of the bits of `n` words: k terms for each place, in the places' order.
 pub(crate) fn bit_sums<F: Field>(field: &F, n: usize) -> [Term<[u16; 3]>; 192]
     requires { n ≤ 3 }
-    ensures { BitSums (model field.now) n result }
+    ensures { BitSums (F.model field.now) n result }
 {
     let k = field.width() as usize;
     let powers = dual_squares(field);
@@ -70,7 +70,7 @@ pub(crate) fn bit_sums<F: Field>(field: &F, n: usize) -> [Term<[u16; 3]>; 192]
 
 // Row i: the code 2^i, and its squares.
 fn bit_squares<F: Field>(field: &F) -> [[u16; 8]; 8]
-    ensures { BitSquares (model field.now) result }
+    ensures { BitSquares (F.model field.now) result }
 {
     let mut rows = [[0; 8]; 8];
     for i in 0..field.width() as usize {
@@ -90,7 +90,7 @@ fn one_net(p: usize) -> NetSet
 // The sums of the powers 1, 2, 4, … of `n` words: k terms for each place, in the places' order.
 pub(crate) fn word_sums<F: Field>(field: &F, n: usize) -> [Term<NetSet>; 192]
     requires { n ≤ 3 }
-    ensures { WordSums (model field.now) n result }
+    ensures { WordSums (F.model field.now) n result }
 {
     let k = field.width() as usize;
     let powers = bit_squares(field);

@@ -23,7 +23,7 @@ fn largest(top: u16, w: usize, n: usize) -> u16
 
 // The exponent rows of `n` words over the field.
 pub(crate) fn exponent_rows<F: Field>(field: &F, n: usize) -> Exps
-    ensures { exp_model result.tops ≡ card_kind (model field.now) n }
+    ensures { exp_model result.tops ≡ card_kind (F.model field.now) n }
 {
     let top = field.order() - 1;
     Exps::new([largest(top, 0, n), largest(top, 1, n), largest(top, 2, n)])
@@ -49,9 +49,9 @@ fn table_work<F: Field>(
     card: &mut [Term<[u16; 3]>],
 ) -> Result<usize, Fault>
     requires { n ≤ 3 }
-    ensures first { first.new ≡ replicate (length first.old) (blank (card_kind (model field.now) n)) }
-    ensures second { second.new ≡ replicate (length second.old) (blank (card_kind (model field.now) n)) }
-    ensures card { CardAnswered (model field.now) n (min (length first.old) (length second.old)) (length card.old) bits.now card.new result }
+    ensures first { first.new ≡ replicate (length first.old) (blank (card_kind (F.model field.now) n)) }
+    ensures second { second.new ≡ replicate (length second.old) (blank (card_kind (F.model field.now) n)) }
+    ensures card { CardAnswered (F.model field.now) n (min (length first.old) (length second.old)) (length card.old) bits.now card.new result }
 {
     let width = field.width() as usize;
     let kind = exponent_rows(field, n);
@@ -77,9 +77,9 @@ fn work<F: Field>(
     card: &mut [Term<[u16; 3]>],
 ) -> Result<usize, Fault>
     requires { n ≤ 3 }
-    ensures first { first.new ≡ replicate (length first.old) (blank (card_kind (model field.now) n)) }
-    ensures second { second.new ≡ replicate (length second.old) (blank (card_kind (model field.now) n)) }
-    ensures card { CardAnswered (model field.now) n (min (length first.old) (length second.old)) (length card.old) bits.now card.new result }
+    ensures first { first.new ≡ replicate (length first.old) (blank (card_kind (F.model field.now) n)) }
+    ensures second { second.new ≡ replicate (length second.old) (blank (card_kind (F.model field.now) n)) }
+    ensures card { CardAnswered (F.model field.now) n (min (length first.old) (length second.old)) (length card.old) bits.now card.new result }
 {
     let cap = first.len().min(second.len());
     let Some(terms) = nested_answer(field, n, bits, cap, card) else {
@@ -101,9 +101,9 @@ pub fn to_words<F: Field>(
     second: &mut [Term<[u16; 3]>],
     card: &mut [Term<[u16; 3]>],
 ) -> Result<usize, Fault>
-    ensures first { first.new ≡ replicate (length first.old) (blank (card_kind (model field.now) (word_count n))) }
-    ensures second { second.new ≡ replicate (length second.old) (blank (card_kind (model field.now) (word_count n))) }
-    ensures card { CardAnswered (model field.now) (word_count n) (min (length first.old) (length second.old)) (length card.old) bits.now card.new result }
+    ensures first { first.new ≡ replicate (length first.old) (blank (card_kind (F.model field.now) (word_count n))) }
+    ensures second { second.new ≡ replicate (length second.old) (blank (card_kind (F.model field.now) (word_count n))) }
+    ensures card { CardAnswered (F.model field.now) (word_count n) (min (length first.old) (length second.old)) (length card.old) bits.now card.new result }
 {
     work(field, n.max(1).min(3), bits, first, second, card)
 }

@@ -9,14 +9,14 @@ pub convert-requires : goal.convert-requires
 convert-requires g c =
     let m = g.F.Field.model c.args.field.now in
     let l = g.met.F.Field.holds c.args.field.now in
-    let sums = c.word-sums-sums.result in
+    let sums = c.word_sums-sums.result in
     record {
-      whole = subst (λ w. c.args.n * w * w ≤ length sums) (sym c.width-width.ensures) (words_whole m l c.args.n sums c.requires c.word-sums-sums.ensures);
-      owned = c.word-sums-sums.ensures.own;
+      whole = subst (λ w. c.args.n * w * w ≤ length sums) (sym c.width-width.ensures) (words_whole m l c.args.n sums c.requires c.word_sums-sums.ensures);
+      owned = c.word_sums-sums.ensures.own;
     }
 
-pub returns-then-terms-gt-MAX-TERMS : goal.returns-then-terms-gt-MAX-TERMS
-returns-then-terms-gt-MAX-TERMS g c =
+pub returns-then-terms-gt-MAX_TERMS : goal.returns-then-terms-gt-MAX_TERMS
+returns-then-terms-gt-MAX_TERMS g c =
     let m = g.F.Field.model c.args.field.now in
     let l = g.met.F.Field.holds c.args.field.now in
     let x = c.in-Ok.ensures in
@@ -27,13 +27,13 @@ returns-then-terms-gt-MAX-TERMS g c =
     record {
       first = x.first;
       second = x.second;
-      bits = bits_many m l c.args.n c.requires cap count c.args.card.now rows t c.if-terms-gt-MAX-TERMS.true
-          (bits_answered_by m l c.args.n c.word-sums-sums.result c.requires c.word-sums-sums.ensures c.width-width.result cap count c.args.card.now rows (Ok t) c.width-width.ensures x.worked)
-          c.clear-rows.new.rows (subst (λ r. c.clear-rows.new.rows ≡ replicate r (blank net_model)) c.convert.auto.result c.clear-rows.ensures);
+      bits = bits_many m l c.args.n c.requires cap count c.args.card.now rows t c.if-terms-gt-MAX_TERMS.true
+          (bits_answered_by m l c.args.n c.word_sums-sums.result c.requires c.word_sums-sums.ensures c.width-width.result cap count c.args.card.now rows (Ok t) c.width-width.ensures x.worked)
+          c.clear_rows.new.rows (subst (λ r. c.clear_rows.new.rows ≡ replicate r (blank net_model)) c.convert.auto.result c.clear_rows.ensures);
     }
 
-pub returns-else-terms-gt-MAX-TERMS : goal.returns-else-terms-gt-MAX-TERMS
-returns-else-terms-gt-MAX-TERMS g c =
+pub returns-else-terms-gt-MAX_TERMS : goal.returns-else-terms-gt-MAX_TERMS
+returns-else-terms-gt-MAX_TERMS g c =
     let m = g.F.Field.model c.args.field.now in
     let l = g.met.F.Field.holds c.args.field.now in
     let x = c.in-Ok.ensures in
@@ -44,8 +44,8 @@ returns-else-terms-gt-MAX-TERMS g c =
     record {
       first = x.first;
       second = x.second;
-      bits = bits_ok m l c.args.n c.requires cap count c.args.card.now rows t c.if-terms-gt-MAX-TERMS.false
-          (bits_answered_by m l c.args.n c.word-sums-sums.result c.requires c.word-sums-sums.ensures c.width-width.result cap count c.args.card.now rows (Ok t) c.width-width.ensures x.worked);
+      bits = bits_ok m l c.args.n c.requires cap count c.args.card.now rows t c.if-terms-gt-MAX_TERMS.false
+          (bits_answered_by m l c.args.n c.word_sums-sums.result c.requires c.word_sums-sums.ensures c.width-width.result cap count c.args.card.now rows (Ok t) c.width-width.ensures x.worked);
     }
 
 pub returns-in-Err : goal.returns-in-Err
@@ -56,10 +56,10 @@ returns-in-Err g c =
     let cap = min (length c.args.first.now) (length c.args.second.now) in
     let count = length c.args.bits.now in
     let rows = c.convert.new.result in
-    let t = c.in-Err.-full in
+    let t = c.in-Err._full in
     record {
       first = x.first;
       second = x.second;
       bits = bits_err m l c.args.n c.requires cap count c.args.card.now rows t
-          (bits_answered_by m l c.args.n c.word-sums-sums.result c.requires c.word-sums-sums.ensures c.width-width.result cap count c.args.card.now rows (Err t) c.width-width.ensures x.worked);
+          (bits_answered_by m l c.args.n c.word_sums-sums.result c.requires c.word_sums-sums.ensures c.width-width.result cap count c.args.card.now rows (Err t) c.width-width.ensures x.worked);
     }

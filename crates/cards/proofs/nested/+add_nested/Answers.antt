@@ -17,7 +17,7 @@ add-nested-requires g t c κs within =
     let m = g.F.Field.model c.args.field.now in
     let less : c.args.p - 1 < t = omega arith in
     let place : c.args.p - 1 ≤ c.args.factors.now.places = omega (arith, c.requires.place) in
-    (less, (within, (c.requires.prepared, (place, (subst (Codes (λ x. x < size m)) (sym c.split-at.ensures.back) (codes_drop (λ x. x < size m) c.leading-n.result c.args.bits.now c.requires.codes), (c.requires.sound, c.requires.own))))))
+    (less, (within, (c.requires.prepared, (place, (subst (Codes (λ x. x < size m)) (sym c.split_at.ensures.back) (codes_drop (λ x. x < size m) c.leading-n.result c.args.bits.now c.requires.codes), (c.requires.sound, c.requires.own))))))
 
 pub returns-then-n-eq0 : goal.returns-then-n-eq0
 returns-then-n-eq0 g t c =
@@ -25,22 +25,22 @@ returns-then-n-eq0 g t c =
     let k = exp_model c.args.kind.now.tops in
     let net = c.args.p - 1 in
     let up : suc net ≡ c.args.p = omega arith in
-    let cs = c.split-at.result.0.now in
-    let bs = c.split-at.result.1.now in
+    let cs = c.split_at.result.0.now in
+    let bs = c.split_at.result.1.now in
     let ts = live c.args.out.now in
-    let vs = live c.add-nested.new.out in
-    let none : cs ≡ [] = c.split-at.ensures.front ∙ ap (λ (i : ℕ). take i c.args.bits.now) c.if-n-eq0.true in
+    let vs = live c.add_nested.new.out in
+    let none : cs ≡ [] = c.split_at.ensures.front ∙ ap (λ (i : ℕ). take i c.args.bits.now) c.if-n-eq0.true in
     let first : Gained m k (suc net) cs ts ts = subst (λ (z : List (Term NetSet)). Gained m k (suc net) z ts ts) (sym none) (gained_none m k (suc net) ts c.requires.own) in
     let lack : Monos (λ s. holds s net ≡ false) bs = c.if-not-absent.ensures tt in
-    let whole : c.args.bits.now ≡ cs ++ bs = c.split-at.ensures.by_index.0 in
+    let whole : c.args.bits.now ≡ cs ++ bs = c.split_at.ensures.by_index.0 in
     record {
-      same = c.add-nested.ensures.same;
-      room = c.add-nested.ensures.room;
-      sound = c.add-nested.ensures.sound;
-      sum = where_ok c.add-nested.result
+      same = c.add_nested.ensures.same;
+      room = c.add_nested.ensures.room;
+      sound = c.add_nested.ensures.sound;
+      sum = where_ok c.add_nested.result
           (λ (h : Gained m k net bs ts vs).
           subst (λ (p : ℕ). Gained m k p c.args.bits.now ts vs) up (subst (λ (z : List (Term NetSet)). Gained m k (suc net) z ts vs) (sym whole) (gained_both m k net cs bs lack ts ts vs first h)))
-          c.add-nested.ensures.sum;
+          c.add_nested.ensures.sum;
     }
 
 pub add-nested-requires-2 : goal.add-nested-requires-2
@@ -57,7 +57,7 @@ add-nested-requires-2 g t c κs within =
           (
             place,
             (
-              subst (Codes (λ x. x < size m)) (sym c.split-at.ensures.front) (codes_take (λ x. x < size m) c.leading-n.result c.args.bits.now c.requires.codes),
+              subst (Codes (λ x. x < size m)) (sym c.split_at.ensures.front) (codes_take (λ x. x < size m) c.leading-n.result c.args.bits.now c.requires.codes),
               (c.new-inner.ensures.table, own_none m k (live c.new-inner.result) (ap (λ (i : ℕ). take i c.new-inner.result.rows.now) c.new-inner.ensures.len)),
             ),
           ),
@@ -78,7 +78,7 @@ pub multiply-requires : goal.multiply-requires
 multiply-requires g t c =
     let m = g.F.Field.model c.args.field.now in
     let k = exp_model c.args.kind.now.tops in
-    let s = c.in-ok-add-nested.ensures in
+    let s = c.in_ok-add_nested.ensures in
     record {
       sound = c.requires.sound;
       first = (s.sound, s.sum.own.rows);
@@ -92,15 +92,15 @@ add-nested-requires-3 g t c κs within =
     let k = exp_model c.args.kind.now.tops in
     let f = c.args.factors.now in
     let net = c.args.p - 1 in
-    let cs = c.split-at.result.0.now in
+    let cs = c.split_at.result.0.now in
     let ts = live c.args.out.now in
-    let is = live c.add-nested-2.new.out in
+    let is = live c.add_nested-2.new.out in
     let us = live c.multiply.new.out in
     let place : net < f.places = omega (arith, c.requires.place) in
-    let held : Monos (λ s. holds s net ≡ true) cs = subst (Monos (λ s. holds s net ≡ true)) (sym c.split-at.ensures.front) c.leading-n.ensures.held in
+    let held : Monos (λ s. holds s net ≡ true) cs = subst (Monos (λ s. holds s net ≡ true)) (sym c.split_at.ensures.front) c.leading-n.ensures.held in
     let empty : live c.new-inner.result ≡ [] = ap (λ (i : ℕ). take i c.new-inner.result.rows.now) c.new-inner.ensures.len in
-    let inner : Gained m k net cs [] is = subst (λ (z : List (Term (List ℕ))). Gained m k net cs z is) empty c.in-ok-add-nested.ensures.sum in
-    let sum = subst (λ (z : List (Term (List ℕ))). adding k (capacity c.args.out.now) (all_products k (product m) is z) ts ≡ done us) c.at.ensures c.in-ok-multiply.ensures.sum in
+    let inner : Gained m k net cs [] is = subst (λ (z : List (Term (List ℕ))). Gained m k net cs z is) empty c.in_ok-add_nested.ensures.sum in
+    let sum = subst (λ (z : List (Term (List ℕ))). adding k (capacity c.args.out.now) (all_products k (product m) is z) ts ≡ done us) c.at.ensures c.in_ok-multiply.ensures.sum in
     let first : Gained m k (suc net) cs ts us = gained_product m l k f c.requires.prepared net place (capacity c.args.out.now) cs held is ts us inner c.requires.own sum in
     let less : c.args.p - 1 < t = omega arith in
     let place' : net ≤ f.places = omega (arith, c.requires.place) in (
@@ -112,8 +112,8 @@ add-nested-requires-3 g t c κs within =
           (
             place',
             (
-              subst (Codes (λ x. x < size m)) (sym c.split-at.ensures.back) (codes_drop (λ x. x < size m) c.leading-n.result c.args.bits.now c.requires.codes),
-              (c.in-ok-multiply.ensures.sound, first.own),
+              subst (Codes (λ x. x < size m)) (sym c.split_at.ensures.back) (codes_drop (λ x. x < size m) c.leading-n.result c.args.bits.now c.requires.codes),
+              (c.in_ok-multiply.ensures.sound, first.own),
             ),
           ),
         ),
@@ -127,28 +127,28 @@ returns g t c =
     let k = exp_model c.args.kind.now.tops in
     let f = c.args.factors.now in
     let net = c.args.p - 1 in
-    let cs = c.split-at.result.0.now in
+    let cs = c.split_at.result.0.now in
     let ts = live c.args.out.now in
-    let is = live c.add-nested-2.new.out in
+    let is = live c.add_nested-2.new.out in
     let us = live c.multiply.new.out in
     let place : net < f.places = omega (arith, c.requires.place) in
-    let held : Monos (λ s. holds s net ≡ true) cs = subst (Monos (λ s. holds s net ≡ true)) (sym c.split-at.ensures.front) c.leading-n.ensures.held in
+    let held : Monos (λ s. holds s net ≡ true) cs = subst (Monos (λ s. holds s net ≡ true)) (sym c.split_at.ensures.front) c.leading-n.ensures.held in
     let empty : live c.new-inner.result ≡ [] = ap (λ (i : ℕ). take i c.new-inner.result.rows.now) c.new-inner.ensures.len in
-    let inner : Gained m k net cs [] is = subst (λ (z : List (Term (List ℕ))). Gained m k net cs z is) empty c.in-ok-add-nested.ensures.sum in
-    let sum = subst (λ (z : List (Term (List ℕ))). adding k (capacity c.args.out.now) (all_products k (product m) is z) ts ≡ done us) c.at.ensures c.in-ok-multiply.ensures.sum in
+    let inner : Gained m k net cs [] is = subst (λ (z : List (Term (List ℕ))). Gained m k net cs z is) empty c.in_ok-add_nested.ensures.sum in
+    let sum = subst (λ (z : List (Term (List ℕ))). adding k (capacity c.args.out.now) (all_products k (product m) is z) ts ≡ done us) c.at.ensures c.in_ok-multiply.ensures.sum in
     let first : Gained m k (suc net) cs ts us = gained_product m l k f c.requires.prepared net place (capacity c.args.out.now) cs held is ts us inner c.requires.own sum in
-    let bs = c.split-at.result.1.now in
-    let vs = live c.add-nested-3.new.out in
+    let bs = c.split_at.result.1.now in
+    let vs = live c.add_nested-3.new.out in
     let up : suc net ≡ c.args.p = omega arith in
     let lack : Monos (λ s. holds s net ≡ false) bs = c.if-not-absent.ensures tt in
-    let whole : c.args.bits.now ≡ cs ++ bs = c.split-at.ensures.by_index.0 in
-    let x = c.in-ok-multiply.ensures in
+    let whole : c.args.bits.now ≡ cs ++ bs = c.split_at.ensures.by_index.0 in
+    let x = c.in_ok-multiply.ensures in
     record {
-      same = c.add-nested-3.ensures.same ∙ x.same;
-      room = c.add-nested-3.ensures.room ∙ x.room;
-      sound = c.add-nested-3.ensures.sound;
-      sum = where_ok c.add-nested-3.result
+      same = c.add_nested-3.ensures.same ∙ x.same;
+      room = c.add_nested-3.ensures.room ∙ x.room;
+      sound = c.add_nested-3.ensures.sound;
+      sum = where_ok c.add_nested-3.result
           (λ (h : Gained m k net bs us vs).
           subst (λ (p : ℕ). Gained m k p c.args.bits.now ts vs) up (subst (λ (z : List (Term NetSet)). Gained m k (suc net) z ts vs) (sym whole) (gained_both m k net cs bs lack ts us vs first h)))
-          c.add-nested-3.ensures.sum;
+          c.add_nested-3.ensures.sum;
     }

@@ -1,4 +1,4 @@
 use Rattle.cards.proofs.nested.+add_nested.Given as goal
 
-abbrev pub decreases-add-nested : goal.decreases-add-nested
-decreases-add-nested g l = l.p
+abbrev pub decreases-add_nested : goal.decreases-add_nested
+decreases-add_nested g l = l.p

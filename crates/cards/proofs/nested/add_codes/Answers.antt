@@ -18,9 +18,9 @@ loop-i-preserved g c =
     let m = g.F.Field.model c.args.field.now in
     let l = g.met.F.Field.holds c.args.field.now in
     let k = exp_model c.args.kind.now.tops in
-    let s = c.in-ok-add.ensures.sum in (
+    let s = c.in_ok-add.ensures.sum in (
       s.table,
-      c.in-ok-add.ensures.same ∙ c.loop-i.invariant.1,
+      c.in_ok-add.ensures.same ∙ c.loop-i.invariant.1,
       s.room ∙ c.loop-i.invariant.2,
       gained_code m l k c.requires.words c.args.bits.now c.loop-i.i no-term c.loop-i-test.true c.requires.codes (live c.args.out.now) (live c.loop-i.out) (live c.add.new.self) c.loop-i.invariant.3
           (s.terms ∙ ap (λ (r : List ℕ). added k (get_or c.args.bits.now c.loop-i.i no-term).code r (live c.loop-i.out)) c.unit.ensures),

@@ -4,23 +4,23 @@ use Rattle.cards.proofs.CardLaw.{enough}
 use Rattle.cards.proofs.Fitting.{shapes_finish}
 use Rattle.cards.proofs.nested.certain.Goals as goal
 
-pub rows-suffice-requires : goal.rows-suffice-requires
-rows-suffice-requires g c =
+pub rows_suffice-requires : goal.rows_suffice-requires
+rows_suffice-requires g c =
     let l = g.met.F.Field.holds c.args.field.now in
     record { few = c.requires; small = subst (λ (q : ℕ). q ≤ 256) (sym c.order-order.ensures) (pow_mono l.wide) }
 
-pub returns-then-rows-suffice : goal.returns-then-rows-suffice
-returns-then-rows-suffice g c = λ _ d duals.
+pub returns-then-rows_suffice : goal.returns-then-rows_suffice
+returns-then-rows_suffice g c = λ _ d duals.
     let m = g.F.Field.model c.args.field.now in
     let l = g.met.F.Field.holds c.args.field.now in
     let e = c.order-order.ensures in
-    let s = c.if-rows-suffice.ensures in
+    let s = c.if-rows_suffice.ensures in
     let x = enough m l c.args.n c.requires d duals c.args.cap c.args.count (subst (λ (q : ℕ). q ^ c.args.n ≤ c.args.cap) e (s.product tt))
     (subst (λ (q : ℕ). q ^ c.args.n ≤ c.args.count) e (s.outcome tt)) c.args.bits.now in
     (x.0, x.1)
 
-pub shapes-fit-requires : goal.shapes-fit-requires
-shapes-fit-requires g c =
+pub shapes_fit-requires : goal.shapes_fit-requires
+shapes_fit-requires g c =
     let l = g.met.F.Field.holds c.args.field.now in
     let e = sym c.width-width.ensures in
     record {
@@ -35,4 +35,4 @@ returns g c = λ h.
     let m = g.F.Field.model c.args.field.now in
     let l = g.met.F.Field.holds c.args.field.now in
     shapes_finish m l c.args.n c.requires c.args.cap c.args.count c.args.bits.now
-    (subst₂ (λ (w q : ℕ). ShapesFit w q (c.args.n * w) c.args.cap c.args.count c.args.bits.now) c.width-width.ensures c.order-order.ensures (c.shapes-fit.ensures h))
+    (subst₂ (λ (w q : ℕ). ShapesFit w q (c.args.n * w) c.args.cap c.args.count c.args.bits.now) c.width-width.ensures c.order-order.ensures (c.shapes_fit.ensures h))

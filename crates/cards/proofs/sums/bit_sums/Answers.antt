@@ -15,8 +15,8 @@ loop-t-init g c =
     let m = g.F.Field.model c.args.field.now in
     (refl, monos_replicate (λ r. (card_kind m c.args.n).own r ≡ true) 192 (term 0 (card_kind m c.args.n).unit) (exp_laws (tops_for (size m) c.args.n) refl).unit_own, λ t h x. absurd (omega arith))
 
-pub at-word-requires : goal.at-word-requires
-at-word-requires g c =
+pub at_word-requires : goal.at_word-requires
+at_word-requires g c =
     let n = (g.met.F.Field.holds c.args.field.now).narrow in
     let b = word_below c.args.n c.width-k.result c.loop-t.t (omega (arith, n, c.width-k.ensures)) c.loop-t-test.true in
     omega (arith, b, c.requires)
@@ -41,14 +41,14 @@ loop-t-preserved g c =
     let small : 2 ^ (t % k) < 2 ^ 16 = pow-lt {i = t % k} {j = 16} (omega arith) in
     let one : 1 * 2 ^ (t % k) % 65536 ≡ 2 ^ (t % k) = ap (λ x. x % 65536) (one-mul (2 ^ (t % k))) ∙ mod-eq_of_lt small in
     let lt : t < length c.loop-t.sums = omega (arith, c.loop-t.invariant.0, few_terms n k c.requires wide, c.loop-t-test.true) in
-    let row : c.at-word.result ≡ at_row 3 (t / k / k) (2 ^ (t % k)) = c.at-word.ensures ∙ ap (at_row 3 (t / k / k)) one in
-    let own : (card_kind m n).own c.at-word.result ≡ true =
+    let row : c.at_word.result ≡ at_row 3 (t / k / k) (2 ^ (t % k)) = c.at_word.ensures ∙ ap (at_row 3 (t / k / k)) one in
+    let own : (card_kind m n).own c.at_word.result ≡ true =
     subst (λ r. (card_kind m n).own r ≡ true) (sym row) (row_own m n (t / k / k) (t % k) (word_below n k t kp c.loop-t-test.true) c.requires (omega arith)) in (
       simp length-set c.loop-t.invariant.0,
       monos_set (λ r. (card_kind m n).own r ≡ true) c.loop-t.sums t _ c.loop-t.invariant.1 own,
       below_more _ _
           (λ i h x. let ne : i ≢ t = omega arith in rw get_or-set_other (c.loop-t.invariant.2 i h x))
-          (λ x. rw get_or-set_same (ap (λ r. term (get_or (get_or c.dual-squares-powers.result (t / k % k) []) (t % k) 0) r) row)),
+          (λ x. rw get_or-set_same (ap (λ r. term (get_or (get_or c.dual_squares-powers.result (t / k % k) []) (t % k) 0) r) row)),
     )
 
 pub returns : goal.returns
@@ -56,8 +56,8 @@ returns g c =
     let m = g.F.Field.model c.args.field.now in
     let laws = g.met.F.Field.holds c.args.field.now in
     let w = m.width in
-    let ds = c.dual-squares-powers.ensures in
-    let powers = c.dual-squares-powers.result in
+    let ds = c.dual_squares-powers.ensures in
+    let powers = c.dual_squares-powers.result in
     let sums = c.loop-t.sums in
     let Q = (λ (k : ℕ). (t : ℕ) → t < c.args.n * k * k → (x : Term (List ℕ)) → get_or sums t x ≡ term (get_or (get_or powers (t / k % k) []) (t % k) 0) (at_row 3 (t / k / k) (2 ^ (t % k)))) in
     let q : Q w = subst Q c.width-k.ensures (λ t h x. c.loop-t.invariant.2 t (omega (arith, c.loop-t-test.false)) x) in

@@ -8,4 +8,4 @@ pub returns : goal.returns
 returns c =
     let p = c.args.p in
     let one = one_member p c.requires in
-    laws_of_sets.only c.of-net.result (single_net p) c.of-net.ensures.own one.own (λ g. c.of-net.ensures.members g ∙ sym (one.members g))
+    laws_of_sets.only c.of_net.result (single_net p) c.of_net.ensures.own one.own (λ g. c.of_net.ensures.members g ∙ sym (one.members g))

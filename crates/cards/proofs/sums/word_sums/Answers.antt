@@ -12,8 +12,8 @@ loop-t-init g c =
     let own : net_model.own c.unit.result ≡ true = subst (λ s. net_model.own s ≡ true) (sym c.unit.ensures) refl in
     (refl, monos_replicate (λ s. net_model.own s ≡ true) 192 (term 0 c.unit.result) own, λ t h x. absurd (omega arith))
 
-pub one-net-requires : goal.one-net-requires
-one-net-requires g c =
+pub one_net-requires : goal.one_net-requires
+one_net-requires g c =
     let laws = g.met.F.Field.holds c.args.field.now in
     let k = c.width-k.result in
     let t = c.loop-t.t in
@@ -43,7 +43,7 @@ loop-t-preserved g c =
       monos_set (λ s. net_model.own s ≡ true) c.loop-t.sums t _ c.loop-t.invariant.1 own,
       below_more _ _
           (λ i h x. let ne : i ≢ t = omega arith in rw get_or-set_other (c.loop-t.invariant.2 i h x))
-          (λ x. rw get_or-set_same (ap (λ s. term (get_or (get_or c.bit-squares-powers.result (t % k) []) (t / k % k) 0) s) c.single_net.ensures)),
+          (λ x. rw get_or-set_same (ap (λ s. term (get_or (get_or c.bit_squares-powers.result (t % k) []) (t / k % k) 0) s) c.single_net.ensures)),
     )
 
 pub returns : goal.returns
@@ -51,13 +51,13 @@ returns g c =
     let m = g.F.Field.model c.args.field.now in
     let laws = g.met.F.Field.holds c.args.field.now in
     let w = m.width in
-    let powers = c.bit-squares-powers.result in
+    let powers = c.bit_squares-powers.result in
     let sums = c.loop-t.sums in
     let Q = (λ (k : ℕ). (t : ℕ) → t < c.args.n * k * k → (x : Term NetSet) → get_or sums t x ≡ term (get_or (get_or powers (t % k) []) (t / k % k) 0) (single_net (t / k / k * k + t % k))) in
     let q : Q w = subst Q c.width-k.ensures (λ t h x. c.loop-t.invariant.2 t (omega (arith, c.loop-t-test.false)) x) in
     let wp : 0 < w = omega (arith, laws.narrow) in
     record {
       count = c.loop-t.invariant.0;
-      terms = λ t h x. q t h x ∙ ap (λ z. term z (single_net (t / w / w * w + t % w))) (c.bit-squares-powers.ensures (t % w) (t / w % w) (mod-lt t wp) (let r : t / w % w < w = mod-lt (t / w) wp in omega (arith, laws.wide)));
+      terms = λ t h x. q t h x ∙ ap (λ z. term z (single_net (t / w / w * w + t % w))) (c.bit_squares-powers.ensures (t % w) (t / w % w) (mod-lt t wp) (let r : t / w % w < w = mod-lt (t / w) wp in omega (arith, laws.wide)));
       own = c.loop-t.invariant.1;
     }
