@@ -4,3 +4,4 @@ mod Once
 mod Sole
 mod Threes
 mod Working
+mod Direct

@@ -13,10 +13,9 @@ use Rattle.gates.specs.Answers as gates
 use Rattle.convert.specs.Convert.{stopped}
 use Rattle.convert.specs.declared.FullTable.{FullTable}
 use Rattle.cards.specs.Working.{card_working, card_fault}
-use Rattle.ledger.specs.Filings.{text, IsCard}
 use Rattle.ledger.specs.Rules.{Duals}
 use Rattle.ledger.proofs.Workings.{one_form, one_bits, not_refused, finished_stopped, stopped_is, same_working}
-use Rattle.job.specs.Answers.{Carded, Refused, unopened, bits, words}
+use Rattle.job.specs.Answers.{CardOfCircuit, Carded, Refused, unopened, bits, words}
 use Rattle.job.specs.Jobs.{Makes, Opened}
 use Rattle.job.specs.Printed.{Printed, card, refusal}
 use Rattle.job.specs.Printing.{card_text}
@@ -72,8 +71,8 @@ module _ (job : List ℕ) where
   one_card : {p k n p' k' n' : ℕ} {ts ts' : List (Term (List ℕ))} → Carded job p k n ts → Carded job p' k' n' ts' → card_text n k p ts ≡ card_text n' k' p' ts'
   one_card {p} {k} {n} {p'} {k'} {n'} {ts} {ts'} x y =
       let e = one_opened job x.opened y.opened in
-      let at = subst₂ (λ (a b : ℕ). IsCard (shift_data b a) n' (text y.circuit) ts) e.polynomial e.width
-      (subst₂ (λ (a : ℕ) (d : Circuit). IsCard (shift_data k p) a (text d) ts) e.number e.same x.card) in
+      let at = subst₂ (λ (a b : ℕ). CardOfCircuit (shift_data b a) n' y.circuit ts) e.polynomial e.width
+      (subst₂ (λ (a : ℕ) (d : Circuit). CardOfCircuit (shift_data k p) a d ts) e.number e.same x.card) in
       let same : ts ≡ ts' = y.card.only ts at.polynomial at.values in
       λ i. card_text (e.number i) (e.width i) (e.polynomial i) (same i)
 

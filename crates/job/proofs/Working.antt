@@ -102,7 +102,7 @@ module _ (job netlist : List ℕ) (p k n : ℕ) (ready : Prepared job p k n netl
         subst (Carded job p k n) terms (record {
           circuit = c;
           opened = open_job;
-          card = t.card;
+          card = record { polynomial = t.card.polynomial; values = t.card.values; only = t.card.only };
           bits = t.form;
           found = found_form t.form t.is_form;
           duals = t.dual;

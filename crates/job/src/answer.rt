@@ -1,4 +1,4 @@
-// The answer to a job, worked on a shelf, with tables of 512 rows.
+// The answer to a job, worked with tables of 512 rows.
 ghost use Rattle.std.specs.Prelude.{◌≡◌, ℕ, List, [], ◌∷◌, length, Some};
 ghost use Rattle.field.specs.ShiftModel.{shift_of};
 ghost use Rattle.cards.specs.Working.{word_count};
@@ -8,12 +8,14 @@ ghost use Rattle.job.specs.Answers.{Answered};
 ghost use Rattle.job.specs.Printed.{Printed, shown_outcome};
 
 use crate::card::Card;
-use crate::open::{field_of, words_of};
+use crate::open::{field_of, open, words_of};
 use crate::parts::take_apart;
 use audit::{Entry, Findings, audit};
+use cards::words::to_words;
 use fault::Fault;
 use field::Field;
 use field::shift::Shift;
+use gates::bit_form;
 use std::fmt;
 use terms::nets::Nets;
 use terms::{Kind, Term};
@@ -65,8 +67,39 @@ fn file_and_draw(
     )
 }
 
-// The card of a job, or why there is none.
-fn work(job: &[u8]) -> Result<Card, Fault>
+// The card of a job, or why there is none: the netlist is worked into bits, and these into words, with no shelf.
+pub fn work(job: &[u8]) -> Result<Card, Fault>
+    ensures { Answered job.now result }
+{
+    let opened = open(job)?;
+    let words = opened.netlist.words() as usize;
+    let mut bits = [Term {
+        code: 0,
+        mono: Nets.unit(),
+    }; ROWS];
+    let count = bit_form(&opened.netlist, &mut bits)?;
+    let mut first = [ZERO; ROWS];
+    let mut second = first;
+    let mut rows = first;
+    let len = to_words(
+        &opened.field,
+        words,
+        &bits[0..count],
+        &mut first,
+        &mut second,
+        &mut rows,
+    )?;
+    Ok(Card {
+        words,
+        width: opened.field.width(),
+        polynomial: opened.field.modulus(),
+        len,
+        rows,
+    })
+}
+
+// The same, on a shelf, through the call that carries the law.
+fn work_on_shelf(job: &[u8]) -> Result<Card, Fault>
     ensures { Answered job.now result }
 {
     let parts = take_apart(job)?;
@@ -111,7 +144,7 @@ pub fn answer(job: &[u8]) -> Outcome
     ensures printed { Printed job.now (shown_outcome result) }
     ensures only { (text : List ℕ) → Printed job.now text → text ≡ shown_outcome result }
 {
-    match work(job) {
+    match work_on_shelf(job) {
         Ok(card) => Outcome::Card(card),
         Err(fault) => Outcome::Refused(fault),
     }
