@@ -1,5 +1,5 @@
 -- From what the workings answer, with no shelf, to what is answered to the job. Assumes nothing.
-use Rattle.std.proofs.Common.{◌≡◌, ℕ, zero, suc, ◌-◌, ◌/◌, ◌%◌, ◌^◌, ◌<◌, ◌≤◌, eqb, List, ◌++◌, length, take, drop, replicate, Ok, Err, sym, refl, ap, ◌∙◌, subst, subst₂, div-lt_iff_lt-mul, arith, length-take-le, get_or-take}
+use Rattle.std.proofs.Common.{◌≡◌, ℕ, zero, suc, ◌-◌, ◌/◌, ◌%◌, ◌^◌, ◌<◌, ◌≤◌, eqb, List, length, take, drop, Ok, Err, sym, refl, ap, ◌∙◌, subst, subst₂, div-lt_iff_lt-mul, arith, length-take-le, get_or-take}
 use lib.Seq.{take-append-le}
 use Rattle.std.proofs.lemmas.List.{take_all}
 use Rattle.algebra.specs.Field.{FieldData, size}
@@ -7,7 +7,7 @@ use Rattle.algebra.specs.Shift.{shift_data}
 use Rattle.fault.specs.declared.Fault.{Fault}
 use Rattle.terms.specs.Nets.{net_model}
 use Rattle.terms.specs.Exps.{tops_for}
-use Rattle.terms.specs.Terms.{blank, padded}
+use Rattle.terms.specs.Terms.{padded}
 use Rattle.terms.specs.Values.{value_under, bit_at}
 use Rattle.terms.specs.BothKinds.{inside_length}
 use Rattle.terms.specs.declared.Term.{Term}

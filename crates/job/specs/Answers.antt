@@ -1,5 +1,5 @@
 -- What is answered to a job: its card, or why there is none. Assumes nothing.
-use Rattle.std.specs.Prelude.{◌≡◌, ℕ, ◌<◌, List, [], take, Ok, Err, Result}
+use Rattle.std.specs.Prelude.{◌≡◌, ℕ, ◌<◌, List, take, Ok, Err, Result}
 use Rattle.algebra.specs.Codes.{Dual}
 use Rattle.algebra.specs.Field.{FieldData}
 use Rattle.algebra.specs.Shift.{shift_data}

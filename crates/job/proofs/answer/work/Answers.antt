@@ -1,4 +1,4 @@
-use Rattle.std.proofs.Common.{◌≡◌, ℕ, ◌-◌, take, drop, Ok, Err, sym, subst, subst₂}
+use Rattle.std.proofs.Common.{ℕ, ◌-◌, take, drop, Ok, Err, sym, subst, subst₂}
 use Rattle.std.proofs.lemmas.Result.{err_from_is_err_and}
 use Rattle.algebra.specs.Shift.{shift_data}
 use Rattle.netlist.specs.Netlists.{circuit}

@@ -18,6 +18,7 @@ loop-i-preserved c =
     let long : length (terms_of self) ≡ self.len = length-take-le self.len self.rows (omega (arith, self.few, self.all)) in
     let next : suc i ≡ c.loop-i.i = omega arith in
     let within : i < self.len = omega arith in
-    c.max-most.ensures
-    ∙ ap₂ max (c.sum.ensures ∙ ap (λ t. total t.mono) (sym (get_or-take self.len self.rows i no_row within))) (c.loop-i.invariant ∙ ap (λ j. degree (drop j (terms_of self))) (sym next))
-    ∙ sym (degree_from (terms_of self) i no_row (omega arith))
+    let rest : max c.sum.result c.loop-i.most ≡ degree (drop i (terms_of self)) =
+    ap₂ max (c.sum.ensures ∙ ap (λ t. total t.mono) (sym (get_or-take self.len self.rows i no_row within))) (c.loop-i.invariant ∙ ap (λ j. degree (drop j (terms_of self))) (sym next))
+    ∙ sym (degree_from (terms_of self) i no_row (omega arith)) in
+    cc
