@@ -1,10 +1,10 @@
 -- The sums of the places, by their terms. Assumes nothing.
-use Rattle.std.proofs.Common.{◌≡◌, ℕ, zero, suc, ◌+◌, ◌-◌, ◌*◌, ◌/◌, ◌%◌, ◌^◌, ◌<◌, ◌≤◌, Bool, true, false, cond, ◌&&◌, ltb, leb, List, [], ◌∷◌, ◌++◌, length, get_or, take, drop, set, replicate, Result, sym, refl, ap, ◌∙◌, subst, ap₂, subst₂, ⊎_elim, mul-le-mul_right, mod-lt, mod-eq_of_lt, div-lt_iff_lt-mul, mul-le-mul, add-one, arith, length-drop, get_or-drop, pow_pos}
+use Rattle.std.proofs.Common.{◌≡◌, ℕ, zero, suc, ◌+◌, ◌-◌, ◌*◌, ◌/◌, ◌%◌, ◌^◌, ◌<◌, ◌≤◌, Bool, true, cond, ltb, leb, List, [], ◌∷◌, ◌++◌, length, get_or, take, drop, set, replicate, Result, sym, refl, ap, ◌∙◌, subst, ap₂, subst₂, mod-eq_of_lt, div-lt_iff_lt-mul, mul-le-mul, arith, length-drop, get_or-drop}
 use native.Mathlib.Nat.{div-eq_of_lt}
 use lib.Arith.{digits_div, digits_mod, digits_lt}
 use lib.Pow.{pow-lt, le_ones}
 use Rattle.std.proofs.lemmas.List.{take_more}
-use Rattle.std.proofs.lemmas.Bool.{le-leb, lt-ltb, and_from, cond-true, cond-false, cases_Bool}
+use Rattle.std.proofs.lemmas.Bool.{le-leb, lt-ltb, and_from, cond-true}
 use Rattle.algebra.specs.Field.{FieldData, FieldLaws, size, product}
 use Rattle.algebra.specs.Ops.{at_row}
 use Rattle.terms.specs.Exps.{limit, tops_for}

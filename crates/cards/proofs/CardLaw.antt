@@ -1,11 +1,11 @@
 -- What a working that ends has made is the card. Assumes nothing.
-use Rattle.std.proofs.Common.{◌≡◌, ℕ, zero, suc, ◌+◌, ◌-◌, ◌*◌, ◌/◌, ◌%◌, ◌^◌, ◌<◌, ◌≤◌, max, Bool, true, false, cond, ◌&&◌, eqb, ltb, leb, ◌⊎◌, List, [], ◌∷◌, ◌++◌, length, take, Ok, Err, sym, refl, ap, ◌∙◌, subst, ap₂, subst₂, inl, inr, ⊎_elim, mul-le-mul_right, mod-lt, div-lt_iff_lt-mul, arith, pow_pos}
+use Rattle.std.proofs.Common.{◌≡◌, ℕ, zero, suc, ◌+◌, ◌-◌, ◌*◌, ◌/◌, ◌%◌, ◌^◌, ◌<◌, ◌≤◌, Bool, true, false, cond, eqb, ltb, leb, ◌⊎◌, List, [], ◌∷◌, length, take, Ok, Err, sym, refl, ap, ◌∙◌, subst, ap₂, subst₂, inl, inr, ⊎_elim, mul-le-mul_right, mod-lt, div-lt_iff_lt-mul, arith, pow_pos}
 use native.Mathlib.Decide.{dec_lt}
 use lib.Bits.{bit_xor}
 use Rattle.std.proofs.lemmas.Bool.{cases_Bool, cond-true, cond-false, cond_both, ltb-true, ltb-false, lt-ltb, le-ltb, le-leb, leb-true, and_parts, and_from, eqb-true, eqb-false, true≢false}
 use Rattle.algebra.specs.Codes.{code_ops, power, row_power, value_at, CardRow, Input, Dual}
 use Rattle.algebra.specs.Field.{FieldData, FieldLaws, size, product}
-use Rattle.algebra.specs.Ops.{Ops, red, row_mul, unit_row, bit_factor, bit_factors_of, held_of, pow_of, mono_of}
+use Rattle.algebra.specs.Ops.{Ops, red, row_mul, unit_row, bit_factor, bit_factors_of, held_of}
 use Rattle.algebra.specs.Terms as A
 use Rattle.algebra.specs.Theorems.{code_xor, card_of, IsCardOf, all_ones}
 use Rattle.algebra.specs.Words.{Row, RowLess}
@@ -14,14 +14,14 @@ use Rattle.algebra.proofs.Products.{red_low}
 use Rattle.algebra.proofs.Rows.{row_order}
 use Rattle.algebra.proofs.Theory.{field_theory}
 use Rattle.algebra.proofs.Worked.{card_worked}
-use Rattle.terms.specs.Exps.{capped, joined, tops_for, exp_model}
+use Rattle.terms.specs.Exps.{capped, joined, tops_for}
 use Rattle.terms.specs.Numbers.{lex, paired, inside}
 use Rattle.terms.specs.Terms.{Under, Falling, Nonzero, Codes, Monos, value}
 use Rattle.terms.specs.declared.Term.{Term}
 use Rattle.terms.specs.declared.nets.NetSet.{NetSet}
 use Rattle.terms.specs.BothKinds.{exp_laws}
 use Rattle.terms.specs.NumbersLemmas.{joined_capped}
-use Rattle.convert.specs.Convert.{chosen, converting, Converted, finished, stopped, Answered}
+use Rattle.convert.specs.Convert.{chosen, Converted, finished, stopped, Answered}
 use Rattle.terms.specs.Sets.{holds}
 use Rattle.terms.specs.Values.{value_under, bit_at}
 use Rattle.convert.specs.declared.FullTable.{FullTable}
@@ -32,7 +32,7 @@ use Rattle.convert.proofs.More.{more_rows}
 use Rattle.convert.proofs.Plain.{plain, plains}
 use Rattle.convert.proofs.Steps.{monos_append}
 use Rattle.convert.proofs.Value.{Z, converting_table}
-use Rattle.cards.specs.Law.{IsInput, card_value, Polynomial, BitTerms, CardOf}
+use Rattle.cards.specs.Law.{IsInput, card_value, BitTerms, CardOf}
 use Rattle.cards.specs.Sums.{bit_sum, card_kind}
 use Rattle.cards.specs.Working.{bit_factors, card_working, card_fault, CardAnswered}
 use Rattle.cards.proofs.Blocks.{row_own}

@@ -30,7 +30,7 @@ use Rattle.terms.proofs.Laws.{lower, higher, level, stands}
 use Rattle.terms.proofs.Members.{laws_of_sets}
 use Rattle.terms.proofs.Sole.{same_forms}
 use Rattle.terms.proofs.Values.{every_all, every_at, on_or, value_at_agree}
-use Rattle.convert.specs.Convert.{chosen, Converted, finished, stopped, Answered}
+use Rattle.convert.specs.Convert.{chosen, finished, Answered}
 use Rattle.convert.specs.Places.{row_held}
 use Rattle.convert.specs.declared.FullTable.{FullTable}
 use Rattle.convert.proofs.Plain.{plain, plains}

@@ -1,11 +1,10 @@
 -- A field with its product taken at all numbers is the same field. Assumes nothing.
-use Rattle.std.proofs.Common.{◌≡◌, ℕ, zero, suc, ◌+◌, ◌*◌, ◌/◌, ◌%◌, ◌^◌, ◌<◌, ◌≤◌, List, [], ◌∷◌, ◌++◌, sym, refl, ap, ◌∙◌, subst, ap₂, mod-lt, mod-eq_of_lt, pow_pos}
+use Rattle.std.proofs.Common.{◌≡◌, ℕ, zero, suc, ◌%◌, ◌^◌, ◌<◌, List, [], ◌∷◌, ◌++◌, sym, refl, ap, ◌∙◌, ap₂, mod-lt, mod-eq_of_lt, pow_pos}
 use lib.Bits.{bit_xor}
-use Rattle.algebra.specs.Codes.{power, code_ops, trace, Dual, row_power, value_at, CardRow, Input}
+use Rattle.algebra.specs.Codes.{power, code_ops, trace, Dual, row_power, value_at, Input}
 use Rattle.algebra.specs.Field.{FieldData, FieldLaws, size, product}
-use Rattle.algebra.specs.Ops.{pow_of, sum_of, trace_of, mono_of, bit_factor, at_row}
+use Rattle.algebra.specs.Ops.{sum_of, bit_factor, at_row}
 use Rattle.algebra.specs.Terms as A
-use Rattle.algebra.specs.Words.{Row}
 use Rattle.algebra.proofs.Squares.{power_below}
 use Rattle.algebra.proofs.Total.{product_below, product_comm, product_assoc, product_dist, product_one, product_inverse}
 use Rattle.terms.specs.declared.Term.{Term}

@@ -2,7 +2,7 @@
 use Rattle.std.specs.Prelude.{◌≡◌, ℕ, ◌*◌, ◌<◌, ◌≤◌, Bool, true, cond, not, ◌||◌, List, take, Some, None, Option, bit_xor}
 use Rattle.algebra.specs.Codes.{Dual}
 use Rattle.algebra.specs.Field.{FieldData, size}
-use Rattle.convert.specs.Convert.{Converted, finished}
+use Rattle.convert.specs.Convert.{finished}
 use Rattle.convert.specs.declared.Factors.{Factors}
 use Rattle.terms.specs.Kind.{KindModel}
 use Rattle.terms.specs.Sets.{holds}

@@ -1,5 +1,5 @@
 -- The rules give each call one refusal at most, and none to a call whose checks all pass. Assumes nothing.
-use Rattle.std.proofs.Common.{◌≡◌, ℕ, suc, ◌<◌, ◌≤◌, min, List, length, Some, None, Option, sym, refl, ap, ◌∙◌, subst, arith}
+use Rattle.std.proofs.Common.{◌≡◌, ℕ, ◌≤◌, min, List, length, Some, None, Option, sym, refl, ap, ◌∙◌, subst, arith}
 use Rattle.algebra.specs.Field.{FieldData, FieldLaws}
 use Rattle.fault.specs.declared.Fault.{Fault}
 use Rattle.fault.specs.declared.Fault.TheVariants.{BadCardRow}
@@ -9,12 +9,11 @@ use Rattle.netlist.specs.Circuits.{Circuit}
 use Rattle.netlist.specs.Refusals as reader
 use Rattle.netlist.proofs.Unique.{one_fault, one_circuit, not_both}
 use Rattle.gates.specs.Answers as gates
-use Rattle.convert.specs.Convert.{Converted, finished, stopped}
-use Rattle.convert.specs.declared.FullTable.{FullTable}
+use Rattle.convert.specs.Convert.{finished}
 use Rattle.cards.specs.Law.{Polynomial, IsInput}
 use Rattle.cards.specs.Working.{card_working, card_fault}
-use Rattle.cards.specs.BitsWorking.{bits_working, BitsRefused}
-use Rattle.ledger.specs.Rules.{Call, filing, card_filing, withdrawing, comparing, valuing, carding, Duals, BadRow, Free, NotFree, Shows, ShowsNothing, Refused, beyond, filled, empty, file_drawer, file_reader, file_bits, rows_drawer, rows_bad, rows_bits, withdraw_drawer, compare_first, compare_second, compare_first_empty, compare_second_empty, value_drawer, value_word, card_drawer, card_full}
+use Rattle.cards.specs.BitsWorking.{bits_working}
+use Rattle.ledger.specs.Rules.{Call, filing, card_filing, withdrawing, comparing, valuing, carding, Duals, Free, NotFree, Shows, ShowsNothing, Refused, beyond, filled, empty, file_drawer, file_reader, file_bits, rows_drawer, rows_bad, rows_bits, withdraw_drawer, compare_first, compare_second, compare_first_empty, compare_second_empty, value_drawer, value_word, card_drawer, card_full}
 use Rattle.ledger.proofs.Polynomials.{one_bad_row, no_bad_row}
 use Rattle.ledger.proofs.Workings.{one_bits, not_refused, one_bits_refused, not_bits_refused, finished_stopped, stopped_is, same_working}
 

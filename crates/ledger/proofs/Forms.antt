@@ -1,5 +1,5 @@
 -- The bit form and the card of a filing. Assumes nothing.
-use Rattle.std.proofs.Common.{◌≡◌, ℕ, ◌*◌, ◌/◌, ◌%◌, ◌^◌, ◌<◌, ◌≤◌, eqb, List, length, take, sym, refl, ap, ◌∙◌, subst, div-lt_iff_lt-mul, arith, length-take-le, get_or-take}
+use Rattle.std.proofs.Common.{◌≡◌, ℕ, ◌*◌, ◌/◌, ◌%◌, ◌^◌, ◌<◌, ◌≤◌, eqb, List, length, take, sym, ap, ◌∙◌, subst, div-lt_iff_lt-mul, arith, length-take-le, get_or-take}
 use Rattle.algebra.specs.Field.{FieldData, FieldLaws, size}
 use Rattle.terms.specs.Exps.{tops_for}
 use Rattle.terms.specs.Sets.{Within}
@@ -15,7 +15,7 @@ use Rattle.netlist.specs.Meaning.{output_at}
 use Rattle.netlist.specs.Refusals as reader
 use Rattle.gates.specs.Forms.{Bit-form}
 use Rattle.gates.proofs.Ends.{value_at_words}
-use Rattle.cards.specs.Law.{IsInput, Polynomial, card_value, BitForm, CardOf, FormOf}
+use Rattle.cards.specs.Law.{IsInput, BitForm, CardOf, FormOf}
 use Rattle.cards.proofs.FormLaw.{with_bits, with_bits_input, with_bits_at}
 use Rattle.ledger.specs.Filings.{Filing, text, rows, output, IsForm, IsCard}
 

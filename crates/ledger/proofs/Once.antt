@@ -1,10 +1,10 @@
 -- Each list of calls leads to one ledger, with one first refusal. Assumes nothing.
-use Rattle.std.proofs.Common.{◌≡◌, ℕ, suc, List, [], ◌∷◌, Some, None, Option, sym, refl, ap, subst, ap₂, subst₂}
+use Rattle.std.proofs.Common.{◌≡◌, ℕ, suc, List, Some, Option, refl, ap, subst, ap₂}
 use Rattle.algebra.specs.Field.{FieldData, FieldLaws}
 use Rattle.fault.specs.declared.Fault.{Fault}
 use Rattle.netlist.specs.Circuits.{Circuit}
 use Rattle.netlist.proofs.Unique.{one_circuit}
-use Rattle.ledger.specs.Filings.{Filing, text, IsForm}
+use Rattle.ledger.specs.Filings.{text, IsForm}
 use Rattle.ledger.specs.Rules.{Call}
 use Rattle.ledger.specs.Ledgers.{Ledger, put, sooner, Enters, enters_text, enters_rows, enters_none, compare_leaves, value_leaves, card_leaves, After, refused, accepted, Goes, done, call}
 use Rattle.ledger.specs.Laws.{OneLedger}

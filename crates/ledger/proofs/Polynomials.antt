@@ -1,8 +1,8 @@
 -- Rows are a polynomial up to the first bad row. Assumes nothing.
-use Rattle.std.proofs.Common.{◌≡◌, ℕ, zero, suc, ◌<◌, ◌≤◌, true, ◌⊎◌, List, [], ◌∷◌, length, get_or, take, sym, refl, ap, ◌∙◌, subst, inl, inr, arith, take-take}
+use Rattle.std.proofs.Common.{◌≡◌, ℕ, zero, suc, ◌<◌, ◌≤◌, true, ◌⊎◌, List, [], ◌∷◌, length, get_or, take, refl, subst, inl, inr, arith, take-take}
 use Rattle.std.proofs.lemmas.Bool.{cases_lt}
 use Rattle.algebra.specs.Field.{FieldData, size}
-use Rattle.terms.specs.Exps.{exp_model, tops_for}
+use Rattle.terms.specs.Exps.{tops_for}
 use Rattle.terms.specs.Kind.{KindModel, KindLaws}
 use Rattle.terms.specs.Terms.{Under, Falling, Nonzero, Codes, Monos}
 use Rattle.terms.specs.declared.Term.{Term}

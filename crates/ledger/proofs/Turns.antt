@@ -1,5 +1,5 @@
 -- From what a call does to the drawers to what it answers by the ledger. Assumes nothing.
-use Rattle.std.proofs.Common.{◌≡◌, ℕ, ◌-◌, ◌<◌, ◌≤◌, min, Bool, true, false, cond, eqb, List, ◌++◌, length, take, replicate, Some, None, Ok, Err, Option, Result, sym, refl, ap, ◌∙◌, subst, ap₂, subst₂, mul-le-mul_right, arith, length-take-le}
+use Rattle.std.proofs.Common.{◌≡◌, ℕ, ◌-◌, ◌≤◌, min, Bool, true, false, cond, eqb, List, ◌++◌, length, take, replicate, Some, None, Ok, Err, Option, Result, sym, refl, ap, ◌∙◌, subst, ap₂, subst₂, mul-le-mul_right, arith, length-take-le}
 use Rattle.std.proofs.lemmas.List.{take-append-drop}
 use Rattle.algebra.specs.Field.{FieldData, FieldLaws}
 use Rattle.fault.specs.declared.Fault.{Fault}
@@ -13,11 +13,11 @@ use Rattle.forms.specs.Theorems.{FormIn, TwoForms}
 use Rattle.forms.proofs.First.{difference_laws}
 use Rattle.ledger.specs.declared.Compared.{Compared}
 use Rattle.ledger.specs.declared.Compared.TheVariants.{Same, Differ}
-use Rattle.ledger.specs.Filings.{Filing, text, rows, output, IsForm}
+use Rattle.ledger.specs.Filings.{Filing, text, rows, IsForm}
 use Rattle.ledger.specs.Rules.{Call, filing, card_filing, withdrawing, comparing, valuing, carding, Free, NotFree, Shows, ShowsNothing, Refused, beyond, filled, empty, file_drawer, file_reader, file_bits, rows_drawer, rows_bad, rows_bits, withdraw_drawer, compare_first, compare_second, compare_first_empty, compare_second_empty, value_drawer, value_word, card_drawer, card_full}
-use Rattle.ledger.specs.Ledgers.{Ledger, put, Due, Accepted, Enters, After, refused, accepted, enters_text, enters_rows, enters_none, compare_leaves, value_leaves, card_leaves}
-use Rattle.ledger.specs.Answers.{Answer, CardTable, words_of, Apart, Tells, Right, fault-in, fault_of}
-use Rattle.ledger.specs.Drawers.{Held, Itself, SameHeld, Puts, TextFiled, RowsFiled, Withdrawn, Difference, Told, Looked, Valued, Does}
+use Rattle.ledger.specs.Ledgers.{Ledger, put, Due, After, refused, accepted, enters_text, enters_rows, enters_none, compare_leaves, value_leaves, card_leaves}
+use Rattle.ledger.specs.Answers.{Answer, CardTable, words_of, Apart, Tells, Right, fault-in}
+use Rattle.ledger.specs.Drawers.{Held, Itself, SameHeld, Puts, Difference, Told, Does}
 use Rattle.ledger.specs.Laws.{Stands, Holds, Turn}
 use Rattle.ledger.proofs.Forms.{text_form, rows_form, one_bit_form, form_card}
 use Rattle.cards.specs.Law.{BitForm}

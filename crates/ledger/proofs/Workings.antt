@@ -1,5 +1,5 @@
 -- Each working ends in one way. Assumes nothing.
-use Rattle.std.proofs.Common.{◌≡◌, ℕ, ◌*◌, ◌/◌, ◌%◌, ◌<◌, ◌≤◌, min, List, [], length, sym, refl, ap, ◌∙◌, mod-lt, arith}
+use Rattle.std.proofs.Common.{◌≡◌, ℕ, ◌*◌, ◌/◌, ◌%◌, ◌<◌, ◌≤◌, List, [], length, sym, refl, ap, ◌∙◌, mod-lt, arith}
 use Rattle.algebra.specs.Field.{FieldData, FieldLaws, product}
 use Rattle.algebra.proofs.Theory.{field_theory}
 use Rattle.fault.specs.declared.Fault.{Fault}

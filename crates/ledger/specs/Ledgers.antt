@@ -1,5 +1,5 @@
 -- The ledger: what stands filed after a list of calls on a shelf just made, by the calls' arguments alone. Assumes nothing.
-use Rattle.std.specs.Prelude.{◌≡◌, ℕ, suc, cond, List, [], ◌∷◌, Some, None, Option, ◌==◌}
+use Rattle.std.specs.Prelude.{ℕ, suc, cond, List, [], ◌∷◌, Some, None, Option, ◌==◌}
 use Rattle.algebra.specs.Field.{FieldData}
 use Rattle.fault.specs.declared.Fault.{Fault}
 use Rattle.terms.specs.declared.Term.{Term}

@@ -1,4 +1,4 @@
-use Rattle.std.proofs.Common.{◌≡◌, ℕ, ◌*◌, ◌≤◌, min, length, replicate, Ok, Err, sym, subst}
+use Rattle.std.proofs.Common.{◌≡◌, ◌*◌, ◌≤◌, min, length, replicate, Ok, Err, sym, subst}
 use Rattle.terms.specs.Nets.{net_model}
 use Rattle.terms.specs.Terms.{blank}
 use Rattle.cards.proofs.FormLaw.{bits_ok, bits_many, bits_err}
@@ -22,14 +22,14 @@ returns-then-terms-gt-MAX_TERMS g c =
     let x = c.in-Ok.ensures in
     let cap = min (length c.args.first.now) (length c.args.second.now) in
     let count = length c.args.bits.now in
-    let rows = c.convert.new.result in
+    let rows = c.convert.new.res in
     let t = c.in-Ok.terms in
     record {
       first = x.first;
       second = x.second;
       bits = bits_many m l c.args.n c.requires cap count c.args.card.now rows t c.if-terms-gt-MAX_TERMS.true
           (bits_answered_by m l c.args.n c.word_sums-sums.result c.requires c.word_sums-sums.ensures c.width-width.result cap count c.args.card.now rows (Ok t) c.width-width.ensures x.worked)
-          c.clear_rows.new.rows (subst (λ r. c.clear_rows.new.rows ≡ replicate r (blank net_model)) c.convert.auto.result c.clear_rows.ensures);
+          c.clear_rows.new.rows (subst (λ r. c.clear_rows.new.rows ≡ replicate r (blank net_model)) c.convert.auto.res c.clear_rows.ensures);
     }
 
 pub returns-else-terms-gt-MAX_TERMS : goal.returns-else-terms-gt-MAX_TERMS
@@ -39,7 +39,7 @@ returns-else-terms-gt-MAX_TERMS g c =
     let x = c.in-Ok.ensures in
     let cap = min (length c.args.first.now) (length c.args.second.now) in
     let count = length c.args.bits.now in
-    let rows = c.convert.new.result in
+    let rows = c.convert.new.res in
     let t = c.in-Ok.terms in
     record {
       first = x.first;
@@ -55,7 +55,7 @@ returns-in-Err g c =
     let x = c.in-Err.ensures in
     let cap = min (length c.args.first.now) (length c.args.second.now) in
     let count = length c.args.bits.now in
-    let rows = c.convert.new.result in
+    let rows = c.convert.new.res in
     let t = c.in-Err._full in
     record {
       first = x.first;

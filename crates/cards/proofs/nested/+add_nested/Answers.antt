@@ -12,8 +12,8 @@ use Rattle.cards.specs.Nested.{Gained}
 use Rattle.cards.proofs.Gains.{codes_take, codes_drop, gained_none, gained_both, gained_product, prepared_whole, factor_own, own_none, where_ok}
 use Rattle.cards.proofs.nested.+add_nested.Goals as goal
 
-pub add-nested-requires : goal.add-nested-requires
-add-nested-requires g t c κs within =
+pub add_nested-requires : goal.add_nested-requires
+add_nested-requires g t c κs within =
     let m = g.F.Field.model c.args.field.now in
     let less : c.args.p - 1 < t = omega arith in
     let place : c.args.p - 1 ≤ c.args.factors.now.places = omega (arith, c.requires.place) in
@@ -43,8 +43,8 @@ returns-then-n-eq0 g t c =
           c.add_nested.ensures.sum;
     }
 
-pub add-nested-requires-2 : goal.add-nested-requires-2
-add-nested-requires-2 g t c κs within =
+pub add_nested-requires-2 : goal.add_nested-requires-2
+add_nested-requires-2 g t c κs within =
     let m = g.F.Field.model c.args.field.now in
     let k = exp_model c.args.kind.now.tops in
     let less : c.args.p - 1 < t = omega arith in
@@ -85,8 +85,8 @@ multiply-requires g t c =
       owned = subst (Monos (λ r. k.own r ≡ true)) (sym c.at.ensures) (factor_own m k c.args.factors.now c.requires.prepared (c.args.p - 1));
     }
 
-pub add-nested-requires-3 : goal.add-nested-requires-3
-add-nested-requires-3 g t c κs within =
+pub add_nested-requires-3 : goal.add_nested-requires-3
+add_nested-requires-3 g t c κs within =
     let m = g.F.Field.model c.args.field.now in
     let l = g.met.F.Field.holds c.args.field.now in
     let k = exp_model c.args.kind.now.tops in

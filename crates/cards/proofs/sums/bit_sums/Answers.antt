@@ -1,8 +1,8 @@
-use Rattle.std.proofs.Common.{◌≡◌, ℕ, ◌+◌, ◌*◌, ◌/◌, ◌%◌, ◌^◌, ◌<◌, ◌≤◌, true, ◌≢◌, List, [], length, get_or, sym, refl, ap, ◌∙◌, subst, ap₂, mod-lt, mod-eq_of_lt, one-mul, arith, length-set, get_or-set_other, get_or-set_same, pow_mono, below_more}
+use Rattle.std.proofs.Common.{◌≡◌, ℕ, ◌*◌, ◌/◌, ◌%◌, ◌^◌, ◌<◌, ◌≤◌, true, ◌≢◌, List, [], length, get_or, sym, refl, ap, ◌∙◌, subst, mod-lt, mod-eq_of_lt, one-mul, arith, length-set, get_or-set_other, get_or-set_same, below_more}
 use lib.Pow.{pow-lt}
 use Rattle.algebra.specs.Field.{size}
 use Rattle.algebra.specs.Ops.{at_row}
-use Rattle.terms.specs.Terms.{term, Monos}
+use Rattle.terms.specs.Terms.{term}
 use Rattle.terms.specs.Exps.{tops_for}
 use Rattle.terms.specs.declared.Term.{Term}
 use Rattle.terms.specs.BothKinds.{exp_laws}

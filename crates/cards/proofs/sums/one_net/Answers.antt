@@ -1,4 +1,4 @@
-use Rattle.std.proofs.Common.{◌≡◌, sym, ◌∙◌}
+use Rattle.std.proofs.Common.{sym, ◌∙◌}
 use Rattle.terms.proofs.Members.{laws_of_sets}
 use Rattle.cards.specs.Sums.{single_net}
 use Rattle.cards.proofs.Blocks.{one_member}

@@ -1,4 +1,4 @@
-use Rattle.std.proofs.Common.{◌≡◌, ℕ, ◌+◌, ◌^◌, ◌<◌, ◌≢◌, length, sym, refl, ◌∙◌, add-one, arith, length-set, get_or-set_other, get_or-set_same, below_none, below_more}
+use Rattle.std.proofs.Common.{◌<◌, ◌≢◌, length, sym, refl, ◌∙◌, add-one, arith, length-set, get_or-set_other, get_or-set_same, below_more}
 use Rattle.algebra.proofs.Squares.{first_power, next_power}
 use Rattle.cards.proofs.sums.squares.Goals as goal
 

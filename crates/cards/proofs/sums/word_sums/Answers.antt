@@ -1,6 +1,6 @@
-use Rattle.std.proofs.Common.{◌≡◌, ℕ, ◌+◌, ◌*◌, ◌/◌, ◌%◌, ◌^◌, ◌<◌, ◌≤◌, true, ◌≢◌, List, [], length, get_or, sym, refl, ap, ◌∙◌, subst, mod-lt, arith, length-set, get_or-set_other, get_or-set_same, below_more}
+use Rattle.std.proofs.Common.{◌≡◌, ℕ, ◌+◌, ◌*◌, ◌/◌, ◌%◌, ◌<◌, ◌≤◌, true, ◌≢◌, [], length, get_or, sym, refl, ap, ◌∙◌, subst, mod-lt, arith, length-set, get_or-set_other, get_or-set_same, below_more}
 use Rattle.terms.specs.Nets.{net_model}
-use Rattle.terms.specs.Terms.{term, Monos}
+use Rattle.terms.specs.Terms.{term}
 use Rattle.terms.specs.declared.Term.{Term}
 use Rattle.terms.specs.declared.nets.NetSet.{NetSet}
 use Rattle.cards.specs.Sums.{single_net}
@@ -37,13 +37,13 @@ loop-t-preserved g c =
     let kp : 0 < k = omega (arith, laws.narrow, c.width-k.ensures) in
     let b = word_below n k t kp c.loop-t-test.true in
     let lt : t < length c.loop-t.sums = omega (arith, c.loop-t.invariant.0, few_terms n k c.requires wide, c.loop-t-test.true) in
-    let own : net_model.own c.single_net.result ≡ true =
-    subst (λ s. net_model.own s ≡ true) (sym c.single_net.ensures) (net_own (t / k / k * k + t % k) (net_below (t / k / k) k (t % k) (omega (arith, b, c.requires)) wide (mod-lt t kp))) in (
+    let own : net_model.own c.one_net.result ≡ true =
+    subst (λ s. net_model.own s ≡ true) (sym c.one_net.ensures) (net_own (t / k / k * k + t % k) (net_below (t / k / k) k (t % k) (omega (arith, b, c.requires)) wide (mod-lt t kp))) in (
       simp length-set c.loop-t.invariant.0,
       monos_set (λ s. net_model.own s ≡ true) c.loop-t.sums t _ c.loop-t.invariant.1 own,
       below_more _ _
           (λ i h x. let ne : i ≢ t = omega arith in rw get_or-set_other (c.loop-t.invariant.2 i h x))
-          (λ x. rw get_or-set_same (ap (λ s. term (get_or (get_or c.bit_squares-powers.result (t % k) []) (t / k % k) 0) s) c.single_net.ensures)),
+          (λ x. rw get_or-set_same (ap (λ s. term (get_or (get_or c.bit_squares-powers.result (t % k) []) (t / k % k) 0) s) c.one_net.ensures)),
     )
 
 pub returns : goal.returns

@@ -1,4 +1,4 @@
-use Rattle.std.proofs.Common.{◌≡◌, ℕ, ◌+◌, ◌*◌, ◌/◌, ◌%◌, ◌<◌, true, List, [], length, get_or}
+use Rattle.std.proofs.Common.{◌≡◌, ℕ, ◌+◌, ◌*◌, ◌/◌, ◌%◌, ◌<◌, true, [], length, get_or}
 use Rattle.terms.specs.Nets.{net_model}
 use Rattle.terms.specs.Terms.{term, Monos}
 use Rattle.terms.specs.declared.Term.{Term}

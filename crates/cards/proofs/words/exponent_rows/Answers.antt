@@ -1,4 +1,4 @@
-use Rattle.std.proofs.Common.{◌≡◌, ℕ, ◌-◌, cond, ltb, List, [], ◌∷◌, ap, ◌∙◌}
+use Rattle.std.proofs.Common.{◌≡◌, ℕ, ◌-◌, cond, ltb, [], ◌∷◌, ap, ◌∙◌}
 use Rattle.terms.specs.Exps.{exp_model}
 use Rattle.cards.proofs.words.exponent_rows.Goals as goal
 

@@ -24,7 +24,7 @@ returns-in-Ok g c =
     let x = c.in-Ok.ensures in
     let cap = min (length c.args.first.now) (length c.args.second.now) in
     let count = length c.args.card.now in
-    let rows = c.convert.new.result in
+    let rows = c.convert.new.res in
     let t = c.in-Ok.terms in
     record {
       first = x.first ∙ ap (λ k. replicate (length c.args.first.now) (blank k)) e;
@@ -42,7 +42,7 @@ returns-in-Err g c =
     let x = c.in-Err.ensures in
     let cap = min (length c.args.first.now) (length c.args.second.now) in
     let count = length c.args.card.now in
-    let rows = c.convert.new.result in
+    let rows = c.convert.new.res in
     let t = c.in-Err.full in
     record {
       first = x.first ∙ ap (λ k. replicate (length c.args.first.now) (blank k)) e;

@@ -1,4 +1,4 @@
-use Rattle.std.proofs.Common.{◌≡◌, ℕ, min, length, replicate, Ok, ap, ◌∙◌, subst}
+use Rattle.std.proofs.Common.{ℕ, length, replicate, Ok, ap, ◌∙◌, subst}
 use Rattle.terms.specs.Terms.{blank}
 use Rattle.cards.specs.Working.{CardAnswered}
 use Rattle.cards.proofs.CardLaw.{answered_ok}
