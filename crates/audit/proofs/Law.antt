@@ -7,12 +7,12 @@ use Rattle.fault.specs.declared.Fault.{Fault}
 use Rattle.terms.specs.Terms.{padded}
 use Rattle.terms.specs.declared.Term.{Term}
 use Rattle.terms.specs.declared.nets.NetSet.{NetSet}
-use Rattle.cards.specs.Law.{IsInput, Polynomial, card_value}
+use Rattle.cards.specs.Law.{Polynomial, card_value}
 use Rattle.cards.specs.Sums.{card_kind}
 use Rattle.ledger.specs.declared.Compared.{Compared}
 use Rattle.ledger.specs.declared.Compared.TheVariants.{Same, Differ}
 use Rattle.ledger.specs.Answers.{Answer, Apart, Tells, CardTable, Outcome, Right}
-use Rattle.ledger.specs.Filings.{Filing, rows, output, Agree, IsForm, Lawful}
+use Rattle.ledger.specs.Filings.{Filing, rows, Agree, IsForm, Lawful}
 use Rattle.ledger.specs.Laws.{Stands, Holds, Turn}
 use Rattle.ledger.specs.Ledgers.{Ledger, no_filings, Due, Led}
 use Rattle.ledger.specs.Rules.{Call, filing, comparing, valuing, carding, Shows}
@@ -26,7 +26,7 @@ use Rattle.audit.specs.declared.entries.Entry.{Entry}
 use Rattle.audit.specs.declared.entries.Entry.TheVariants.{File, FileCard, Withdraw, Compare, Value, Card}
 use Rattle.audit.specs.declared.findings.Findings.{Findings}
 use Rattle.audit.specs.Entries.{Tables, call_of, calls_of, named, Fits, AllFit}
-use Rattle.audit.specs.Faithful.{Lent, TheLedger, Faithful}
+use Rattle.audit.specs.Faithful.{Lent, Faithful}
 use Rattle.audit.specs.Runs.{Runs}
 use Rattle.audit.proofs.Steps.{same_filing, same_carding}
 

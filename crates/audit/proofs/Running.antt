@@ -1,13 +1,11 @@
 -- The ledger along a list of calls. Assumes nothing.
-use Rattle.std.proofs.Common.{◌≡◌, ℕ, zero, suc, ◌+◌, ◌<◌, ◌≤◌, List, [], ◌∷◌, ◌++◌, map, length, get_or, take, Some, None, Option, sym, refl, ap, ◌∙◌, subst, ap₂, subst₂, add-zero, add-suc, suc-add, add-one, arith}
+use Rattle.std.proofs.Common.{◌≡◌, ℕ, suc, ◌+◌, ◌<◌, ◌≤◌, List, [], ◌∷◌, ◌++◌, map, length, get_or, take, Some, None, Option, sym, refl, ap, ◌∙◌, subst, subst₂, add-zero, arith}
 use mathlib.Core.Path.{subst₃}
 use Rattle.std.proofs.lemmas.List.{take_more, take_all, length-take-le}
 use Rattle.algebra.specs.Field.{FieldData}
 use Rattle.fault.specs.declared.Fault.{Fault}
-use Rattle.ledger.specs.Laws.{Holds}
 use Rattle.ledger.specs.Ledgers.{Ledger, sooner, After, Goes, done, call}
 use Rattle.ledger.specs.Rules.{Call}
-use Rattle.shelf.specs.Held.{held_at}
 use Rattle.shelf.specs.declared.store.Drawer.{Drawer}
 use Rattle.audit.specs.declared.entries.Entry.{Entry}
 use Rattle.audit.specs.Entries.{Tables, call_of, calls_of, kept}

@@ -1,5 +1,5 @@
 -- The calls that entries stand for. Assumes nothing.
-use Rattle.std.specs.Prelude.{◌≡◌, ℕ, ◌≤◌, min, List, [], ◌∷◌, map, Some, None, Option}
+use Rattle.std.specs.Prelude.{ℕ, ◌≤◌, min, List, [], ◌∷◌, map, Some, None, Option}
 use Rattle.fault.specs.declared.Fault.{Fault}
 use Rattle.ledger.specs.Rules.{Call, filing, card_filing, withdrawing, comparing, valuing, carding}
 use Rattle.audit.specs.declared.entries.Entry.{Entry}

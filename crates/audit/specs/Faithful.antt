@@ -1,5 +1,5 @@
 -- The law: what holds of any two drawers after any list of calls on a shelf just made. Assumes nothing.
-use Rattle.std.specs.Prelude.{◌≡◌, ℕ, ◌↔◌, List, map, length, take, Some, Ok, Option}
+use Rattle.std.specs.Prelude.{◌≡◌, ℕ, ◌↔◌, List, length, take, Some, Ok, Option}
 use Rattle.algebra.specs.Field.{FieldData}
 use Rattle.fault.specs.declared.Fault.{Fault}
 use Rattle.terms.specs.Terms.{padded}

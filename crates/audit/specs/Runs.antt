@@ -1,5 +1,5 @@
 -- One call of a list, and going down a list, by the ledger. Assumes nothing.
-use Rattle.std.specs.Prelude.{◌≡◌, ℕ, List, Option}
+use Rattle.std.specs.Prelude.{ℕ, List, Option}
 use Rattle.algebra.specs.Field.{FieldData}
 use Rattle.fault.specs.declared.Fault.{Fault}
 use Rattle.ledger.specs.Laws.{Holds}

@@ -1,4 +1,6 @@
 // Lists of calls on a shelf just made, and what compare, value and card then answer.
+#![tactic(auto)]
+
 pub mod entries;
 pub mod findings;
 pub mod runs;

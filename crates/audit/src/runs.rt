@@ -59,7 +59,7 @@ fn file<F: Field>(
     rows: usize,
     work: &mut [Term<NetSet>],
 ) -> Option<Fault>
-    ensures steps { Steps (model shelf.old.field) shelf.old.words (filing drawer text.now (min rows (length work.old))) shelf.old.drawers shelf.new.drawers result }
+    ensures steps { Steps (F.model shelf.old.field) shelf.old.words (filing drawer text.now (min rows (length work.old))) shelf.old.drawers shelf.new.drawers result }
     ensures field { shelf.new.field ≡ shelf.old.field }
     ensures words { shelf.new.words ≡ shelf.old.words }
 {
@@ -77,7 +77,7 @@ fn file_card<F: Field>(
     second: &mut [Term<NetSet>],
     res: &mut [Term<NetSet>],
 ) -> Option<Fault>
-    ensures steps { Steps (model shelf.old.field) shelf.old.words (card_filing drawer rows.now (min (slice_index lent 0) (length first.old)) (min (slice_index lent 1) (length second.old)) (min (slice_index lent 2) (length res.old))) shelf.old.drawers shelf.new.drawers result }
+    ensures steps { Steps (F.model shelf.old.field) shelf.old.words (card_filing drawer rows.now (min (slice_index lent 0) (length first.old)) (min (slice_index lent 1) (length second.old)) (min (slice_index lent 2) (length res.old))) shelf.old.drawers shelf.new.drawers result }
     ensures field { shelf.new.field ≡ shelf.old.field }
     ensures words { shelf.new.words ≡ shelf.old.words }
 {
@@ -103,7 +103,7 @@ fn card_of<F: Field>(
     second: &mut [Term<[u16; 3]>],
     card: &mut [Term<[u16; 3]>],
 ) -> Option<Fault>
-    ensures { Steps (model shelf.now.field) shelf.now.words (carding drawer (min (slice_index lent 0) (length first.old)) (min (slice_index lent 1) (length second.old)) (min (slice_index lent 2) (length card.old))) shelf.now.drawers shelf.now.drawers result }
+    ensures { Steps (F.model shelf.now.field) shelf.now.words (carding drawer (min (slice_index lent 0) (length first.old)) (min (slice_index lent 1) (length second.old)) (min (slice_index lent 2) (length card.old))) shelf.now.drawers shelf.now.drawers result }
 {
     let [p, s, c] = lent;
     let p = smaller(p, first.len());
@@ -123,7 +123,7 @@ fn step<'a, F: Field>(
     second: &mut [Term<[u16; 3]>],
     card: &mut [Term<[u16; 3]>],
 ) -> Option<Fault>
-    ensures steps { Steps (model shelf.old.field) shelf.old.words (call_of (tables (length work.old) (length bits_first.old) (length bits_second.old) (length first.old) (length second.old) (length card.old)) entry.now) shelf.old.drawers shelf.new.drawers result }
+    ensures steps { Steps (F.model shelf.old.field) shelf.old.words (call_of (tables (length work.old) (length bits_first.old) (length bits_second.old) (length first.old) (length second.old) (length card.old)) entry.now) shelf.old.drawers shelf.new.drawers result }
     ensures field { shelf.new.field ≡ shelf.old.field }
     ensures words { shelf.new.words ≡ shelf.old.words }
 {
@@ -173,7 +173,7 @@ fn run_all<'a, F: Field>(
     second: &mut [Term<[u16; 3]>],
     card: &mut [Term<[u16; 3]>],
 ) -> Option<(usize, Fault)>
-    ensures runs { Runs (model shelf.old.field) shelf.old.words (calls_of (tables (length work.old) (length bits_first.old) (length bits_second.old) (length first.old) (length second.old) (length card.old)) entries.now) shelf.old.drawers shelf.new.drawers result }
+    ensures runs { Runs (F.model shelf.old.field) shelf.old.words (calls_of (tables (length work.old) (length bits_first.old) (length bits_second.old) (length first.old) (length second.old) (length card.old)) entries.now) shelf.old.drawers shelf.new.drawers result }
     ensures field { shelf.new.field ≡ shelf.old.field }
     ensures words { shelf.new.words ≡ shelf.old.words }
 {
@@ -201,8 +201,8 @@ fn ask<F: Field>(
     b: usize,
     words: [u16; 3],
 ) -> (Result<Compared, Fault>, Result<u16, Fault>)
-    ensures compared { Promise (model shelf.now.field) shelf.now.words (comparing a b) shelf.now.drawers shelf.now.drawers result.0 }
-    ensures value { Promise (model shelf.now.field) shelf.now.words (valuing a words) shelf.now.drawers shelf.now.drawers result.1 }
+    ensures compared { Promise (F.model shelf.now.field) shelf.now.words (comparing a b) shelf.now.drawers shelf.now.drawers result.0 }
+    ensures value { Promise (F.model shelf.now.field) shelf.now.words (valuing a words) shelf.now.drawers shelf.now.drawers result.1 }
 {
     (shelf.compare(a, b), shelf.value(a, words))
 }
@@ -223,10 +223,10 @@ fn find<'a, F: Field + Drop>(
     left: &mut [Term<[u16; 3]>],
     right: &mut [Term<[u16; 3]>],
 ) -> Findings
-    ensures faithful { Faithful (model field) (word_count n) (calls_of (tables (length work.old) (length bits_first.old) (length bits_second.old) (length first.old) (length second.old) (length left.old)) entries.now) a b words (lent (length first.old) (length second.old) (length left.old) (length right.old)) result left.new right.new }
+    ensures faithful { Faithful (F.model field) (word_count n) (calls_of (tables (length work.old) (length bits_first.old) (length bits_second.old) (length first.old) (length second.old) (length left.old)) entries.now) a b words (lent (length first.old) (length second.old) (length left.old) (length right.old)) result left.new right.new }
     ensures named { AllFit (tables (length work.old) (length bits_first.old) (length bits_second.old) (length first.old) (length second.old) (length left.old)) entries.now → calls_of (tables (length work.old) (length bits_first.old) (length bits_second.old) (length first.old) (length second.old) (length left.old)) entries.now ≡ map named entries.now }
-    ensures first { first.new ≡ replicate (length first.old) (blank (card_kind (model field) (word_count n))) }
-    ensures second { second.new ≡ replicate (length second.old) (blank (card_kind (model field) (word_count n))) }
+    ensures first { first.new ≡ replicate (length first.old) (blank (card_kind (F.model field) (word_count n))) }
+    ensures second { second.new ≡ replicate (length second.old) (blank (card_kind (F.model field) (word_count n))) }
 {
     let mut shelf = Shelf::new(field, n);
     let refused = run_all(
@@ -268,13 +268,13 @@ pub fn audit<'a, F: Field + Drop>(
     left: &mut [Term<[u16; 3]>],
     right: &mut [Term<[u16; 3]>],
 ) -> Findings
-    ensures faithful { Faithful (model field) (word_count n) (calls_of (tables (length work.old) (length bits_first.old) (length bits_second.old) (length first.old) (length second.old) (length left.old)) entries.now) a b words (lent (length first.old) (length second.old) (length left.old) (length right.old)) result left.new right.new }
+    ensures faithful { Faithful (F.model field) (word_count n) (calls_of (tables (length work.old) (length bits_first.old) (length bits_second.old) (length first.old) (length second.old) (length left.old)) entries.now) a b words (lent (length first.old) (length second.old) (length left.old) (length right.old)) result left.new right.new }
     ensures named { AllFit (tables (length work.old) (length bits_first.old) (length bits_second.old) (length first.old) (length second.old) (length left.old)) entries.now → calls_of (tables (length work.old) (length bits_first.old) (length bits_second.old) (length first.old) (length second.old) (length left.old)) entries.now ≡ map named entries.now }
     ensures work { work.new ≡ replicate (length work.old) (blank net_model) }
     ensures bits1 { bits_first.new ≡ replicate (length bits_first.old) (blank net_model) }
     ensures bits2 { bits_second.new ≡ replicate (length bits_second.old) (blank net_model) }
-    ensures first { first.new ≡ replicate (length first.old) (blank (card_kind (model field) (word_count n))) }
-    ensures second { second.new ≡ replicate (length second.old) (blank (card_kind (model field) (word_count n))) }
+    ensures first { first.new ≡ replicate (length first.old) (blank (card_kind (F.model field) (word_count n))) }
+    ensures second { second.new ≡ replicate (length second.old) (blank (card_kind (F.model field) (word_count n))) }
 {
     let findings = find(
         field,

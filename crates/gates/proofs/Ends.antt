@@ -20,7 +20,7 @@ use Rattle.terms.specs.Sets.{holds, among, Own, Within, Top, SetOf, NetLaws}
 use Rattle.terms.specs.Additions.{Ended, done, full, adding}
 use Rattle.gates.specs.Reductions.{OutTerms, Put, TailTerms, Reduces, empty, bits, stops, step, Worked, goes}
 use Rattle.terms.specs.Values.{every, set_on, value_under, bit_at}
-use Rattle.gates.specs.Forms.{Terms-of, Keeps, RightEnd, ValueAtWords}
+use Rattle.gates.specs.Forms.{TermsOf, Keeps, RightEnd, ValueAtWords}
 use Rattle.terms.proofs.Values.{value_at_agree}
 use Rattle.gates.proofs.Lit.{on_among}
 use Rattle.terms.proofs.Additions.{TermsAll, adding_keeps}
@@ -87,9 +87,9 @@ out_comes k n i (x ∷ xs) (t ∷ ts) f b w = (
 )
 
 -- additions of such terms leave such terms
-pub adding_terms : (c : Circuit) (cap n : ℕ) → n ≤ inputs c + length c.gates → (adds ts us : List (Term NetSet)) → TermsAll (Comes c.width n) adds → Terms-of c ts → adding net_model cap adds ts ≡ done us → Terms-of c us
+pub adding_terms : (c : Circuit) (cap n : ℕ) → n ≤ inputs c + length c.gates → (adds ts us : List (Term NetSet)) → TermsAll (Comes c.width n) adds → TermsOf c ts → adding net_model cap adds ts ≡ done us → TermsOf c us
 adding_terms c cap n l =
-    adding_keeps net_model cap (Comes c.width n) (Terms-of c)
+    adding_keeps net_model cap (Comes c.width n) (TermsOf c)
     (λ t xs q r. record {
       own = added_monos net_model net_laws Own t.code t.mono q.0 xs r.own;
       falling = added_falling net_model net_laws t.code t.mono xs r.falling;
@@ -159,7 +159,7 @@ module _ (N : NetLaws) where
   under_within n m om w (t ∷ ts) o u = (less_within n t.mono m o.0 om u.0 w, under_within n m om w ts o.1 u.1)
 
   -- each step keeps the value of the terms, and no gate's net is left at the end
-  pub steps_keep : (c : Circuit) (cap : ℕ) → WellFormed c → (ts : List (Term NetSet)) (e : Ended NetSet) → Reduces c cap ts e → Terms-of c ts → Keeps c ts e
+  pub steps_keep : (c : Circuit) (cap : ℕ) → WellFormed c → (ts : List (Term NetSet)) (e : Ended NetSet) → Reduces c cap ts e → TermsOf c ts → Keeps c ts e
   steps_keep c cap w ts e empty r = (r, tt, λ ins l. refl)
   steps_keep c cap w ts e (bits t rest h) r = (r, (h, under_within (inputs c) t.mono r.own.0 h rest r.own.1 r.falling.0), λ ins l. refl)
   steps_keep c cap w ts e (stops t rest adds us g top low tl f) r = tt
@@ -171,8 +171,8 @@ module _ (N : NetLaws) where
       let at : inputs c + (g - inputs c) ≡ g = omega arith in
       let reads : AllBelow g (tail gate) = subst (λ n. AllBelow n (tail gate)) at (tail_below gate (inputs c + (g - inputs c)) (driven_reads c.gates (inputs c) (g - inputs c) w.driven j)) in
       let few : g < 256 = omega (arith, few_nets c w) in
-      let left : Terms-of c rest = record { own = r.own.1; falling = r.falling.1; nonzero = r.nonzero.1; driven = r.driven.1; codes = r.codes.1 } in
-      let now : Terms-of c us = adding_terms c cap g (omega arith) adds rest us (tail_comes c.width t.code s g r.codes.0 top (tail gate) adds reads tl) left don in
+      let left : TermsOf c rest = record { own = r.own.1; falling = r.falling.1; nonzero = r.nonzero.1; driven = r.driven.1; codes = r.codes.1 } in
+      let now : TermsOf c us = adding_terms c cap g (omega arith) adds rest us (tail_comes c.width t.code s g r.codes.0 top (tail gate) adds reads tl) left don in
       let this : (ins : List Bool) → length ins ≡ inputs c → value_under (bit c ins) us ≡ value_under (bit c ins) (t ∷ rest) =
       λ ins l. value_at_step (bit c ins) cap t rest adds us g (tail gate) few top.has
       (ap (bit c ins) (sym at) ∙ tails_agree_lem c ins (g - inputs c) w l j) (sets_more g 256 (omega arith) (tail gate) reads) tl don in
@@ -182,7 +182,7 @@ module _ (N : NetLaws) where
       after c ts us (done xs) h k = (k.0, k.1, λ ins l. k.2 ins l ∙ h ins l)
       after c ts us (full xs) h k = tt
 
-  nothing_yet : (c : Circuit) → Terms-of c []
+  nothing_yet : (c : Circuit) → TermsOf c []
   nothing_yet c = record { own = tt; falling = tt; nonzero = tt; driven = tt; codes = tt }
 
   -- the whole working
@@ -190,7 +190,7 @@ module _ (N : NetLaws) where
   values_kept c cap e w (stops outs us o f) = tt
   values_kept c cap e w (goes outs us d o f r) = form d (steps_keep c cap w us d r begun)
     where
-      begun : Terms-of c us
+      begun : TermsOf c us
       begun = adding_terms c cap (inputs c + length c.gates) (omega arith) outs [] us (out_comes c.width (inputs c + length c.gates) 0 c.outs outs (omega (arith, w.as_wide)) w.outputs o) (nothing_yet c) f
 
       at_first : (ins : List Bool) → length ins ≡ inputs c → value_under (bit c ins) us ≡ output c ins

@@ -11,7 +11,7 @@ use Rattle.netlist.specs.Meaning.{tail}
 use Rattle.terms.specs.Sets.{holds, among, Own, Within, Top}
 use Rattle.terms.specs.Additions.{Ended, done, full, adding}
 use Rattle.gates.specs.Reductions.{TailTerms, Reduces, empty, bits, stops, step}
-use Rattle.gates.specs.Forms.{Terms-of, EnoughRows, AlwaysEnds}
+use Rattle.gates.specs.Forms.{TermsOf, EnoughRows, AlwaysEnds}
 use Rattle.gates.specs.Tails.{Joined, Joins, each}
 use Rattle.gates.proofs.Kept.{AllBelow}
 use Rattle.terms.proofs.Members.{laws_of_sets, never}
@@ -77,7 +77,7 @@ data Goes (c : Circuit) (t : Term NetSet) (rest : List (Term NetSet)) : Type 0 w
   over : Within (inputs c) t.mono → Goes c t rest
   on : (g : ℕ) (adds : List (Term NetSet)) → Top t.mono g → inputs c ≤ g → TailTerms t.code t.mono g (tail (get_or c.gates (g - inputs c) Zero)) adds → Goes c t rest
 
-goes_how : (c : Circuit) → WellFormed c → (t : Term NetSet) (rest : List (Term NetSet)) → Terms-of c (t ∷ rest) → Goes c t rest
+goes_how : (c : Circuit) → WellFormed c → (t : Term NetSet) (rest : List (Term NetSet)) → TermsOf c (t ∷ rest) → Goes c t rest
 goes_how c w t rest r =
     ⊎_elim
     (λ p. let g = p.0 in let top = p.1 in
@@ -99,7 +99,7 @@ goes_how c w t rest r =
     (top_of t.mono r.own.0)
 
 -- ---- some number of rows suffices
-enough : (c : Circuit) → WellFormed c → (n : ℕ) (ts : List (Term NetSet)) → Terms-of c ts → height ts ≤ n → (cap : ℕ) × (us : List (Term NetSet)) × Reduces c cap ts (done us)
+enough : (c : Circuit) → WellFormed c → (n : ℕ) (ts : List (Term NetSet)) → TermsOf c ts → height ts ≤ n → (cap : ℕ) × (us : List (Term NetSet)) × Reduces c cap ts (done us)
 enough c w n [] r l = (0, [], empty)
 enough c w zero (t ∷ rest) r l = absurd (not-suc-le-zero l)
 enough c w (suc n) (t ∷ rest) r l =
@@ -108,7 +108,7 @@ enough c w (suc n) (t ∷ rest) r l =
       | on g adds top low tl ↦
           let next = sums adds rest in
           let one : adding net_model (wanted adds rest) adds rest ≡ done next = adding_all (wanted adds rest) adds rest (omega arith) in
-          let terms : Terms-of c next = turn_terms c w (wanted adds rest) t (t ∷ rest) rest adds next g refl top low tl r one in
+          let terms : TermsOf c next = turn_terms c w (wanted adds rest) t (t ∷ rest) rest adds next g refl top low tl r one in
           let falls : height next < height (t ∷ rest) = turn_falls c w (wanted adds rest) t (t ∷ rest) rest adds next g refl top low tl r one in
           let more = enough c w n next terms (omega arith) in
           let cap = wanted adds rest + more.0 in (
@@ -144,7 +144,7 @@ adds_how cap adds ts = which (adding net_model cap adds ts) refl
     which (done us) q = fits us q
     which (full us) q = fails us q
 
-ends : (c : Circuit) → WellFormed c → (cap n : ℕ) (ts : List (Term NetSet)) → Terms-of c ts → height ts ≤ n → (e : Ended NetSet) × Reduces c cap ts e
+ends : (c : Circuit) → WellFormed c → (cap n : ℕ) (ts : List (Term NetSet)) → TermsOf c ts → height ts ≤ n → (e : Ended NetSet) × Reduces c cap ts e
 ends c w cap n [] r l = (done [], empty)
 ends c w cap zero (t ∷ rest) r l = absurd (not-suc-le-zero l)
 ends c w cap (suc n) (t ∷ rest) r l =
@@ -153,7 +153,7 @@ ends c w cap (suc n) (t ∷ rest) r l =
       | on g adds top low tl ↦
           elim (adds_how cap adds rest) [
             | fits next one ↦
-                let terms : Terms-of c next = turn_terms c w cap t (t ∷ rest) rest adds next g refl top low tl r one in
+                let terms : TermsOf c next = turn_terms c w cap t (t ∷ rest) rest adds next g refl top low tl r one in
                 let falls : height next < height (t ∷ rest) = turn_falls c w cap t (t ∷ rest) rest adds next g refl top low tl r one in
                 let more = ends c w cap n next terms (omega arith) in
                 (more.0, step t rest adds next g more.0 top low tl one more.1)

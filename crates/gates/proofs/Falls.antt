@@ -15,7 +15,7 @@ use Rattle.netlist.specs.Meaning.{tail}
 use Rattle.terms.specs.Sets.{holds, among, Own, Within, Top}
 use Rattle.terms.specs.Additions.{Ended, done, full, adding}
 use Rattle.gates.specs.Reductions.{TailTerms, Reduces, empty, bits, stops, step}
-use Rattle.gates.specs.Forms.{Terms-of}
+use Rattle.gates.specs.Forms.{TermsOf}
 use Rattle.gates.specs.Tails.{Joins, each}
 use Rattle.terms.proofs.Additions.{TermsAll, adding_keeps}
 use Rattle.gates.proofs.Kept.{AllBelow}
@@ -65,9 +65,9 @@ led None t t' lead rest o e = absurd (let f = sym e ∙ o.0 in let z : ◌≡◌
 
 -- one turn: ts is led by lead, which holds gate net g; adds are the terms of the tail
 module _ (c : Circuit) (w : WellFormed c) (cap : ℕ) (lead : Term NetSet) (ts rest adds ts'' : List (Term NetSet)) (g : ℕ) (first : ts ≡ lead ∷ rest) (top : Top lead.mono g) (low : inputs c ≤ g)
-    (tl : TailTerms lead.code lead.mono g (tail (get_or c.gates (g - inputs c) Zero)) adds) (r : Terms-of c ts) where
-  led_terms : Terms-of c (lead ∷ rest)
-  led_terms = subst (Terms-of c) first r
+    (tl : TailTerms lead.code lead.mono g (tail (get_or c.gates (g - inputs c) Zero)) adds) (r : TermsOf c ts) where
+  led_terms : TermsOf c (lead ∷ rest)
+  led_terms = subst (TermsOf c) first r
 
   gate_high : g < inputs c + length c.gates
   gate_high = led_terms.driven.0 g top.has
@@ -83,7 +83,7 @@ module _ (c : Circuit) (w : WellFormed c) (cap : ℕ) (lead : Term NetSet) (ts r
   come : TermsAll (Comes c.width g) adds
   come = tail_comes c.width lead.code lead.mono g led_terms.codes.0 top (tail (get_or c.gates (g - inputs c) Zero)) adds reads tl
 
-  pub turn_terms : adding net_model cap adds rest ≡ done ts'' → Terms-of c ts''
+  pub turn_terms : adding net_model cap adds rest ≡ done ts'' → TermsOf c ts''
   turn_terms don =
       let h = gate_high in
       adding_terms c cap g (omega arith) adds rest ts'' come

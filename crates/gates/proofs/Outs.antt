@@ -11,7 +11,7 @@ use Rattle.terms.proofs.Changes.{single, single_net}
 use Rattle.terms.proofs.Members.{laws_of_sets}
 use Rattle.netlist.specs.Circuits.{Below, Circuit, WellFormed, nets}
 use Rattle.gates.specs.Reductions.{OutTerms, Reduces, Worked, stops, goes}
-use Rattle.gates.specs.Forms.{Terms-of}
+use Rattle.gates.specs.Forms.{TermsOf}
 use Rattle.netlist.proofs.Formed.{few_nets}
 use Rattle.gates.proofs.Ends.{below_more, adding_terms, out_comes}
 
@@ -56,7 +56,7 @@ outs_more cap os outs i code u ts w l e p =
 pub below_few : (c : Circuit) → WellFormed c → Below 256 c.outs
 below_few c w = below_more (nets c) 256 (few_nets c w) c.outs w.outputs
 
-pub starts : (c : Circuit) (cap : ℕ) (us : List (Term NetSet)) → WellFormed c → adding net_model cap (out_terms 0 c.outs) [] ≡ done us → Terms-of c us
+pub starts : (c : Circuit) (cap : ℕ) (us : List (Term NetSet)) → WellFormed c → adding net_model cap (out_terms 0 c.outs) [] ≡ done us → TermsOf c us
 starts c cap us w f =
     adding_terms c cap (nets c) (omega arith) (out_terms 0 c.outs) [] us
     (out_comes c.width (nets c) 0 c.outs (out_terms 0 c.outs) (omega (arith, w.as_wide)) w.outputs (outs_are 0 c.outs (below_few c w)))

@@ -9,7 +9,7 @@ use Rattle.terms.specs.Forms.{Form}
 use Rattle.terms.proofs.Sole.{same_forms}
 use Rattle.terms.proofs.Values.{value_at_agree}
 use Rattle.netlist.specs.Circuits.{Circuit, inputs}
-use Rattle.gates.specs.Forms.{Bit-form, OnlyForm}
+use Rattle.gates.specs.Forms.{BitForm, OnlyForm}
 
 -- ---- inputs
 -- the first n bits of v
@@ -31,11 +31,11 @@ bits_at (suc n) v g l =
     (cases_eq g n)
 
 -- ---- forms
-form_of_lem : (c : Circuit) (us : List (Term NetSet)) → Bit-form c us → Form us
+form_of_lem : (c : Circuit) (us : List (Term NetSet)) → BitForm c us → Form us
 form_of_lem c us b = record { own = b.own; falling = b.falling; nonzero = b.nonzero }
 
 -- the value at any bits is that at the input with the first of them
-at_bits : (c : Circuit) (us : List (Term NetSet)) → Bit-form c us → (v : ℕ → Bool) → value_under v us ≡ value_under (λ g. get_or (bits_of (inputs c) v) g false) us
+at_bits : (c : Circuit) (us : List (Term NetSet)) → BitForm c us → (v : ℕ → Bool) → value_under v us ≡ value_under (λ g. get_or (bits_of (inputs c) v) g false) us
 at_bits c us b v = value_at_agree v (λ g. get_or (bits_of (inputs c) v) g false) (inputs c) (λ i l. sym (bits_at (inputs c) v i l)) us b.no_gate
 
 pub only_form : OnlyForm

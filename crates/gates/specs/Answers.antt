@@ -9,14 +9,14 @@ use Rattle.terms.specs.declared.Term.{Term}
 use Rattle.terms.specs.declared.nets.NetSet.{NetSet}
 use Rattle.netlist.specs.Circuits.{Circuit}
 use Rattle.gates.specs.Reductions.{Worked}
-use Rattle.gates.specs.Forms.{OnlyEnd, Bit-form}
+use Rattle.gates.specs.Forms.{OnlyEnd, BitForm}
 
 -- the bit form us of the circuit was found with cap rows: the working ended in it, and it has at most 256 terms
 pub record Found (c : Circuit) (cap : ℕ) (us : List (Term NetSet)) : Type 0 where
   pub worked : Worked c cap (done us)
   pub only : OnlyEnd c cap (done us)
-  pub form : Bit-form c us
-  pub sole : (vs : List (Term NetSet)) → Bit-form c vs → vs ≡ us
+  pub form : BitForm c us
+  pub sole : (vs : List (Term NetSet)) → BitForm c vs → vs ≡ us
   pub few : length us ≤ 256
 
 -- why no bit form is answered: an addition of the working found no free row, or the working ended with more than 256 terms

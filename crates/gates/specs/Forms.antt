@@ -12,7 +12,7 @@ use Rattle.gates.specs.Reductions.{Reduces, Worked}
 use Rattle.terms.specs.Values.{value_under, bit_at}
 
 -- terms of sets, in falling order, of nets that the circuit drives
-pub record Terms-of (c : Circuit) (ts : List (Term NetSet)) : Type 0 where
+pub record TermsOf (c : Circuit) (ts : List (Term NetSet)) : Type 0 where
   pub own : Monos Own ts
   pub falling : Falling net_model ts
   pub nonzero : Nonzero ts
@@ -21,11 +21,11 @@ pub record Terms-of (c : Circuit) (ts : List (Term NetSet)) : Type 0 where
 
 -- where a working that began with ts ended: no gate's net is left, and the terms have the value that ts had, with every net at its Boolean value
 abbrev pub Keeps : Circuit → List (Term NetSet) → Ended NetSet → Type 0
-Keeps c ts (done us) = Terms-of c us × Monos (Within (inputs c)) us × ((ins : List Bool) → length ins ≡ inputs c → value_under (bit c ins) us ≡ value_under (bit c ins) ts)
+Keeps c ts (done us) = TermsOf c us × Monos (Within (inputs c)) us × ((ins : List Bool) → length ins ≡ inputs c → value_under (bit c ins) us ≡ value_under (bit c ins) ts)
 Keeps c ts (full us) = Unit {0}
 
 -- us is a bit form of the circuit: sets of input nets in falling order, and at every input the sum of the codes whose sets hold only one bits is the word that the gates give
-pub record Bit-form (c : Circuit) (us : List (Term NetSet)) : Type 0 where
+pub record BitForm (c : Circuit) (us : List (Term NetSet)) : Type 0 where
   pub own : Monos Own us
   pub falling : Falling net_model us
   pub nonzero : Nonzero us
@@ -35,15 +35,15 @@ pub record Bit-form (c : Circuit) (us : List (Term NetSet)) : Type 0 where
 
 -- a circuit has one bit form: its meaning fixes the list
 abbrev pub OnlyForm : Type 0
-OnlyForm = (c : Circuit) (us vs : List (Term NetSet)) → Bit-form c us → Bit-form c vs → us ≡ vs
+OnlyForm = (c : Circuit) (us vs : List (Term NetSet)) → BitForm c us → BitForm c vs → us ≡ vs
 
 -- at input words, a bit form has the value that the gates give there
 abbrev pub ValueAtWords : Type 0
-ValueAtWords = (c : Circuit) (us : List (Term NetSet)) (xs : List ℕ) → WellFormed c → Bit-form c us → length xs ≡ c.words → value_under (bit_at c.width xs) us ≡ output_at c xs
+ValueAtWords = (c : Circuit) (us : List (Term NetSet)) (xs : List ℕ) → WellFormed c → BitForm c us → length xs ≡ c.words → value_under (bit_at c.width xs) us ≡ output_at c xs
 
 -- what a working that went to its end has found
 abbrev pub RightEnd : Circuit → Ended NetSet → Type 0
-RightEnd c (done us) = Bit-form c us
+RightEnd c (done us) = BitForm c us
 RightEnd c (full us) = Unit {0}
 
 -- the working ends in e, and in nothing else
@@ -56,7 +56,7 @@ ValuesKept = (c : Circuit) (cap : ℕ) (e : Ended NetSet) → WellFormed c → W
 
 -- each step keeps the value
 abbrev pub StepsKeep : Type 0
-StepsKeep = (c : Circuit) (cap : ℕ) (ts : List (Term NetSet)) (e : Ended NetSet) → WellFormed c → Terms-of c ts → Reduces c cap ts e → Keeps c ts e
+StepsKeep = (c : Circuit) (cap : ℕ) (ts : List (Term NetSet)) (e : Ended NetSet) → WellFormed c → TermsOf c ts → Reduces c cap ts e → Keeps c ts e
 
 -- one end for each circuit and number of rows
 abbrev pub OneEnd : Type 0

@@ -7,7 +7,7 @@ ghost use Rattle.terms.specs.declared.Term.{Term};
 ghost use Rattle.terms.specs.declared.nets.NetSet.{NetSet};
 ghost use Rattle.netlist.specs.Netlists.{circuit};
 ghost use Rattle.gates.specs.Reductions.{OutTerms, Reduces, Worked};
-ghost use Rattle.gates.specs.Forms.{Terms-of};
+ghost use Rattle.gates.specs.Forms.{TermsOf};
 ghost use Rattle.gates.specs.Tails.{each, ended};
 ghost use Rattle.gates.specs.Answers.{Answered};
 
@@ -49,7 +49,7 @@ fn add_outs(net: &Netlist, table: &mut TermTable<NetSet>) -> Result<(), Full>
 // While the leading term holds a gate's net, replaces it by the tail of the gate of its greatest net.
 fn replace_gates(net: &Netlist, table: &mut TermTable<NetSet>) -> Result<(), Full>
     requires sound { Sound net_model table.old }
-    requires terms { Terms-of (circuit net.now) (live table.old) }
+    requires terms { TermsOf (circuit net.now) (live table.old) }
     ensures same { table.new.rows.ghost_name ≡ table.old.rows.ghost_name }
     ensures room { capacity table.new ≡ capacity table.old }
     ensures sound { Sound net_model table.new }

@@ -1,5 +1,5 @@
 -- Each job is opened in one way, or refused in one way. Assumes nothing.
-use Rattle.std.proofs.Common.{◌≡◌, ℕ, suc, ◌^◌, ◌<◌, ◌≤◌, min, max, ◌⊎◌, List, [], ◌∷◌, ◌++◌, length, get_or, Some, None, codes, Option, sym, refl, ap, ◌∙◌, subst, subst₂, inl, inr, arith, pow_mono}
+use Rattle.std.proofs.Common.{◌≡◌, ℕ, suc, ◌<◌, ◌≤◌, ◌⊎◌, List, [], ◌∷◌, ◌++◌, length, get_or, Some, None, codes, Option, sym, refl, ap, ◌∙◌, subst, subst₂, inl, inr, arith, pow_mono}
 use Rattle.std.proofs.lemmas.List.{append_cancel_left}
 use Rattle.algebra.proofs.Reduce.{degree_low}
 use Rattle.fault.specs.declared.Fault.{Fault}

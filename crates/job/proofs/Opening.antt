@@ -5,7 +5,7 @@ use Rattle.field.specs.declared.shift.Shift.{Shift}
 use Rattle.fault.specs.declared.Fault.{Fault}
 use Rattle.lines.specs.Text.{Line}
 use Rattle.lines.specs.declared.Head.TheVariants.{Words}
-use Rattle.netlist.specs.Refusals.{Accepted, Refused, bad_first, bad_entry, bytes_after, BadFirst, no_words, words_form, sizes_range, sizes_others}
+use Rattle.netlist.specs.Refusals.{Accepted, Refused, bad_first, bad_entry, bytes_after, no_words, words_form, sizes_range, sizes_others}
 use Rattle.netlist.specs.Circuits.{Circuit}
 use Rattle.job.specs.Jobs.{Parts, FieldPolynomial, NoDefault, WordsGiven, NoField, no_polynomial, makes_none, Prepared, Opened, NotOpened, no_field, field, reader}
 

@@ -1,5 +1,5 @@
 -- Each job has one text. Assumes nothing.
-use Rattle.std.proofs.Common.{◌≡◌, ℕ, List, sym, refl, ap, ◌∙◌, subst, subst₂}
+use Rattle.std.proofs.Common.{◌≡◌, ℕ, List, sym, ap, ◌∙◌, subst, subst₂}
 use Rattle.algebra.specs.Field.{FieldLaws}
 use Rattle.algebra.specs.Shift.{shift_data}
 use Rattle.algebra.proofs.ShiftLaws.{shift_laws}

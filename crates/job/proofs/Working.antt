@@ -1,5 +1,5 @@
 -- From what is found on the shelf to what is answered to the job. Assumes nothing.
-use Rattle.std.proofs.Common.{◌≡◌, ℕ, suc, ◌<◌, ◌≤◌, ◌⊎◌, List, [], ◌∷◌, length, take, Some, None, Ok, Err, Option, Result, sym, refl, ap, ◌∙◌, subst, inl, inr, arith}
+use Rattle.std.proofs.Common.{◌≡◌, ℕ, ◌<◌, ◌≤◌, ◌⊎◌, List, [], ◌∷◌, length, take, Some, None, Ok, Err, Option, Result, sym, refl, ap, ◌∙◌, subst, inl, inr, arith}
 use Rattle.std.proofs.lemmas.List.{take_at}
 use Rattle.std.proofs.lemmas.Bool.{cases_lt}
 use Rattle.algebra.specs.Field.{FieldData, FieldLaws}
@@ -18,8 +18,7 @@ use Rattle.gates.proofs.Enough.{always_ends}
 use Rattle.gates.proofs.Ends.{values_kept}
 use Rattle.gates.proofs.Once.{one_end}
 use Rattle.gates.proofs.Sole.{only_form}
-use Rattle.cards.specs.Working.{word_count}
-use Rattle.ledger.specs.Answers.{CardTable, Outcome, Right}
+use Rattle.ledger.specs.Answers.{CardTable, Right}
 use Rattle.ledger.specs.Filings.{Filing, text, IsForm}
 use Rattle.ledger.specs.Ledgers.{Ledger, no_filings, put, sooner, Due, Accepted, Enters, enters_text, After, refused, accepted, Goes, call}
 use Rattle.ledger.specs.Ledgers as ledgers

@@ -1,5 +1,5 @@
 -- What is answered to a job: its card, or why there is none. Assumes nothing.
-use Rattle.std.specs.Prelude.{◌≡◌, ℕ, List, [], Ok, Err, Result}
+use Rattle.std.specs.Prelude.{◌≡◌, ℕ, List, Ok, Err, Result}
 use Rattle.algebra.specs.Shift.{shift_data}
 use Rattle.fault.specs.declared.Fault.{Fault}
 use Rattle.terms.specs.declared.Term.{Term}

@@ -13,14 +13,14 @@ use Rattle.terms.proofs.Values.{value_at_agree}
 use Rattle.netlist.specs.Circuits.{Circuit, WellFormed, inputs}
 use Rattle.netlist.specs.Meaning.{output_at}
 use Rattle.netlist.specs.Refusals as reader
-use Rattle.gates.specs.Forms.{Bit-form}
+use Rattle.gates.specs.Forms.{BitForm as CircuitForm}
 use Rattle.gates.proofs.Ends.{value_at_words}
 use Rattle.cards.specs.Law.{IsInput, BitForm, CardOf, FormOf}
 use Rattle.cards.proofs.FormLaw.{with_bits, with_bits_input, with_bits_at}
 use Rattle.ledger.specs.Filings.{Filing, text, rows, output, IsForm, IsCard}
 
 -- the bit form's value at three numbers, of which the first are the circuit's words
-form_outputs : (c : Circuit) (us : List (Term NetSet)) (k : ℕ) (xs : List ℕ) → c.width ≡ k → WellFormed c → Bit-form c us → length xs ≡ 3
+form_outputs : (c : Circuit) (us : List (Term NetSet)) (k : ℕ) (xs : List ℕ) → c.width ≡ k → WellFormed c → CircuitForm c us → length xs ≡ 3
     → value_under (bit_at k xs) us ≡ output_at c (take c.words xs)
 form_outputs c us k xs e w b l =
     let some : 0 < c.width = let r = w.range.some_bits in omega arith in
@@ -49,7 +49,7 @@ module _ (m : FieldData) (l : FieldLaws m) (n : ℕ) (few : n ≤ 3) where
   is_form f us b h = record { bit_form = b; values = h; only = λ vs c k. same_values vs us c b (λ xs i. k xs i ∙ sym (h xs i)) }
 
   -- what the gates' working ends in is the bit form of the text
-  pub text_form : (bytes : List ℕ) (c : Circuit) (us : List (Term NetSet)) → reader.Accepted n m.width bytes c → Bit-form c us → IsForm m n (text c) us
+  pub text_form : (bytes : List ℕ) (c : Circuit) (us : List (Term NetSet)) → reader.Accepted n m.width bytes c → CircuitForm c us → IsForm m n (text c) us
   text_form bytes c us a b = is_form (text c) us (record {
     terms = record { codes = subst (λ (k : ℕ). Codes (λ x. x < 2 ^ k) us) a.width b.codes; within = subst (λ (i : ℕ). Monos (Within i) us) places b.no_gate };
     nonzero = b.nonzero;

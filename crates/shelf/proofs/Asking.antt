@@ -1,5 +1,5 @@
 -- What the calls that leave a shelf as it is do, from what their steps answer. Assumes nothing.
-use Rattle.std.proofs.Common.{◌≡◌, ℕ, ◌<◌, ◌≤◌, min, List, [], ◌∷◌, length, get_or, replicate, Some, None, Ok, Err, Result, sym, refl, ap, ◌∙◌, subst, arith}
+use Rattle.std.proofs.Common.{◌≡◌, ℕ, ◌≤◌, min, List, [], ◌∷◌, length, get_or, replicate, None, Ok, Err, Result, sym, refl, ap, ◌∙◌, subst, arith}
 use Rattle.algebra.specs.Field.{FieldData, FieldLaws}
 use Rattle.fault.specs.declared.Fault.{Fault}
 use Rattle.fault.specs.declared.Fault.TheVariants.{DrawerEmpty}
@@ -12,7 +12,7 @@ use Rattle.forms.specs.Differences.{LeastDifference}
 use Rattle.forms.specs.Inputs.{Width, InputOf, InputIs, ValueIs}
 use Rattle.cards.specs.Sums.{card_kind}
 use Rattle.cards.specs.Working.{CardAnswered}
-use Rattle.ledger.specs.Drawers.{Held, Itself, SameHeld, Difference, Looked, Told, Valued, Drawn}
+use Rattle.ledger.specs.Drawers.{Held, Itself, Told, Drawn}
 use Rattle.ledger.specs.Rules.{Shows, ShowsNothing, Refused, beyond, empty, comparing, carding, compare_first_empty, compare_second_empty, card_drawer, card_full}
 use Rattle.ledger.specs.declared.Compared.TheVariants.{Differ}
 

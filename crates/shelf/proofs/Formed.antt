@@ -1,10 +1,9 @@
 -- The test of lists of terms tells just the forms. Assumes nothing.
-use Rattle.std.proofs.Common.{◌≡◌, ℕ, ◌<◌, Bool, true, false, ◌&&◌, ltb, List, [], ◌∷◌, sym, refl, ap, ◌∙◌, ap₂, arith}
+use Rattle.std.proofs.Common.{◌≡◌, ℕ, Bool, true, false, ◌&&◌, ltb, List, [], ◌∷◌, refl, ap₂, arith}
 use Rattle.std.proofs.lemmas.Bool.{lt-ltb, ltb-true}
 use Rattle.terms.specs.Forms.{Form}
 use Rattle.terms.specs.Nets.{net_model}
-use Rattle.terms.specs.Sets.{Own}
-use Rattle.terms.specs.Terms.{Under, Falling, Nonzero, Monos}
+use Rattle.terms.specs.Terms.{Under}
 use Rattle.terms.specs.declared.Term.{Term}
 use Rattle.terms.specs.declared.nets.NetSet.{NetSet}
 use Rattle.shelf.specs.Formed.{all_below, formed}

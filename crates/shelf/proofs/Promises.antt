@@ -1,5 +1,5 @@
 -- What a call does is all that it has to show. Assumes nothing.
-use Rattle.std.proofs.Common.{◌≡◌, ℕ, ◌≤◌, List, sym, ap, ◌∙◌, subst}
+use Rattle.std.proofs.Common.{ℕ, ◌≤◌, List}
 use Rattle.algebra.specs.Field.{FieldData, FieldLaws}
 use Rattle.ledger.specs.Answers.{Answer}
 use Rattle.ledger.specs.Drawers.{Does}

@@ -1,5 +1,5 @@
 -- Numbers within their limits, and the first bad row. Assumes nothing.
-use Rattle.std.proofs.Common.{◌≡◌, ℕ, zero, suc, ◌+◌, ◌-◌, ◌<◌, ◌≤◌, Bool, true, false, ◌&&◌, leb, List, [], ◌∷◌, length, get_or, take, sym, refl, ap, ◌∙◌, subst, ap₂, subst₂, add-one, arith}
+use Rattle.std.proofs.Common.{◌≡◌, ℕ, suc, ◌+◌, ◌-◌, ◌<◌, ◌≤◌, Bool, true, false, ◌&&◌, leb, List, length, get_or, take, sym, refl, ap, ◌∙◌, subst, ap₂, subst₂, add-one, arith}
 use Rattle.std.proofs.lemmas.List.{get_or_default}
 use Rattle.std.proofs.lemmas.Bool.{le-leb, lt-leb}
 use Rattle.algebra.specs.Field.{FieldData, size}
@@ -10,7 +10,7 @@ use Rattle.terms.specs.declared.Term.{Term}
 use Rattle.terms.specs.BothKinds.{as_three}
 use Rattle.cards.specs.Law.{Polynomial}
 use Rattle.ledger.specs.Rules.{BadRow}
-use Rattle.ledger.proofs.Polynomials.{Follows, follows, one_more}
+use Rattle.ledger.proofs.Polynomials.{follows, one_more}
 use Rattle.shelf.specs.Rows.{Lawful}
 
 module _ (ts xs : List ℕ) (tl : length ts ≡ 3) (xl : length xs ≡ 3) where

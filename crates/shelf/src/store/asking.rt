@@ -48,7 +48,7 @@ fn tell(left: &[Term<NetSet>], right: &[Term<NetSet>], width: u32) -> Compared
 impl<F: Field> Shelf<F> {
     // Compares two drawers, where both are filled.
     fn look(&self, a: usize, b: usize) -> Result<Compared, Fault>
-        ensures { Promise (model self.now.field) self.now.words (comparing a b) self.now.drawers self.now.drawers result }
+        ensures { Promise (F.model self.now.field) self.now.words (comparing a b) self.now.drawers self.now.drawers result }
     {
         if !is_drawer(a) {
             return Err(Fault::NoSuchDrawer);
@@ -64,14 +64,14 @@ impl<F: Field> Shelf<F> {
     // Whether two drawers have the same output at every input; else the differing input with the fewest one bits, the
     // smallest of those, and both outputs there.
     pub fn compare(&self, a: usize, b: usize) -> Result<Compared, Fault>
-        ensures { Promise (model self.now.field) self.now.words (comparing a b) self.now.drawers self.now.drawers result }
+        ensures { Promise (F.model self.now.field) self.now.words (comparing a b) self.now.drawers self.now.drawers result }
     {
         self.look(a, b)
     }
 
     // The value of a filled drawer at an input.
     fn evaluate(&self, drawer: usize, words: [u16; 3]) -> Result<u16, Fault>
-        ensures { Promise (model self.now.field) self.now.words (valuing drawer words) self.now.drawers self.now.drawers result }
+        ensures { Promise (F.model self.now.field) self.now.words (valuing drawer words) self.now.drawers self.now.drawers result }
     {
         let terms = terms_at(&self.drawers, drawer)?;
         if !is_input(&self.field, self.words, words) {
@@ -82,7 +82,7 @@ impl<F: Field> Shelf<F> {
 
     // The output of a drawer at an input.
     pub fn value(&self, drawer: usize, words: [u16; 3]) -> Result<u16, Fault>
-        ensures { Promise (model self.now.field) self.now.words (valuing drawer words) self.now.drawers self.now.drawers result }
+        ensures { Promise (F.model self.now.field) self.now.words (valuing drawer words) self.now.drawers self.now.drawers result }
     {
         self.evaluate(drawer, words)
     }
@@ -95,9 +95,9 @@ impl<F: Field> Shelf<F> {
         second: &mut [Term<[u16; 3]>],
         card: &mut [Term<[u16; 3]>],
     ) -> Result<usize, Fault>
-        ensures promise { Promise (model self.now.field) self.now.words (carding drawer (length first.old) (length second.old) (length card.old)) self.now.drawers self.now.drawers (result, card.new) }
-        ensures first { first.new ≡ replicate (length first.old) (blank (card_kind (model self.now.field) self.now.words)) }
-        ensures second { second.new ≡ replicate (length second.old) (blank (card_kind (model self.now.field) self.now.words)) }
+        ensures promise { Promise (F.model self.now.field) self.now.words (carding drawer (length first.old) (length second.old) (length card.old)) self.now.drawers self.now.drawers (result, card.new) }
+        ensures first { first.new ≡ replicate (length first.old) (blank (card_kind (F.model self.now.field) self.now.words)) }
+        ensures second { second.new ≡ replicate (length second.old) (blank (card_kind (F.model self.now.field) self.now.words)) }
     {
         clear_tables(first, second, card);
         let terms = terms_at(&self.drawers, drawer)?;
@@ -112,9 +112,9 @@ impl<F: Field> Shelf<F> {
         second: &mut [Term<[u16; 3]>],
         card: &mut [Term<[u16; 3]>],
     ) -> Result<usize, Fault>
-        ensures promise { Promise (model self.now.field) self.now.words (carding drawer (length first.old) (length second.old) (length card.old)) self.now.drawers self.now.drawers (result, card.new) }
-        ensures first { first.new ≡ replicate (length first.old) (blank (card_kind (model self.now.field) self.now.words)) }
-        ensures second { second.new ≡ replicate (length second.old) (blank (card_kind (model self.now.field) self.now.words)) }
+        ensures promise { Promise (F.model self.now.field) self.now.words (carding drawer (length first.old) (length second.old) (length card.old)) self.now.drawers self.now.drawers (result, card.new) }
+        ensures first { first.new ≡ replicate (length first.old) (blank (card_kind (F.model self.now.field) self.now.words)) }
+        ensures second { second.new ≡ replicate (length second.old) (blank (card_kind (F.model self.now.field) self.now.words)) }
     {
         self.draw(drawer, first, second, card)
     }

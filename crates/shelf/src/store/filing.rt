@@ -39,7 +39,7 @@ impl<F: Field> Shelf<F> {
         text: &[u8],
         work: &mut [Term<NetSet>],
     ) -> Result<usize, Fault>
-        ensures promise { Promise (model self.old.field) self.old.words (filing drawer text.now (length work.old)) self.old.drawers self.new.drawers result }
+        ensures promise { Promise (F.model self.old.field) self.old.words (filing drawer text.now (length work.old)) self.old.drawers self.new.drawers result }
         ensures field { self.new.field ≡ self.old.field }
         ensures words { self.new.words ≡ self.old.words }
     {
@@ -57,7 +57,7 @@ impl<F: Field> Shelf<F> {
         text: &[u8],
         work: &mut [Term<NetSet>],
     ) -> Result<usize, Fault>
-        ensures promise { Promise (model self.old.field) self.old.words (filing drawer text.now (length work.old)) self.old.drawers self.new.drawers result }
+        ensures promise { Promise (F.model self.old.field) self.old.words (filing drawer text.now (length work.old)) self.old.drawers self.new.drawers result }
         ensures field { self.new.field ≡ self.old.field }
         ensures words { self.new.words ≡ self.old.words }
         ensures work { work.new ≡ replicate (length work.old) (blank net_model) }
@@ -76,7 +76,7 @@ impl<F: Field> Shelf<F> {
         second: &mut [Term<NetSet>],
         res: &mut [Term<NetSet>],
     ) -> Result<usize, Fault>
-        ensures promise { Promise (model self.old.field) self.old.words (card_filing drawer rows.now (length first.old) (length second.old) (length res.old)) self.old.drawers self.new.drawers result }
+        ensures promise { Promise (F.model self.old.field) self.old.words (card_filing drawer rows.now (length first.old) (length second.old) (length res.old)) self.old.drawers self.new.drawers result }
         ensures field { self.new.field ≡ self.old.field }
         ensures words { self.new.words ≡ self.old.words }
     {
@@ -96,7 +96,7 @@ impl<F: Field> Shelf<F> {
         second: &mut [Term<NetSet>],
         res: &mut [Term<NetSet>],
     ) -> Result<usize, Fault>
-        ensures promise { Promise (model self.old.field) self.old.words (card_filing drawer rows.now (length first.old) (length second.old) (length res.old)) self.old.drawers self.new.drawers result }
+        ensures promise { Promise (F.model self.old.field) self.old.words (card_filing drawer rows.now (length first.old) (length second.old) (length res.old)) self.old.drawers self.new.drawers result }
         ensures field { self.new.field ≡ self.old.field }
         ensures words { self.new.words ≡ self.old.words }
         ensures first { first.new ≡ replicate (length first.old) (blank net_model) }
@@ -112,7 +112,7 @@ impl<F: Field> Shelf<F> {
 
     // Empties the drawer, where it is filled.
     fn take_out(&mut self, drawer: usize) -> Result<usize, Fault>
-        ensures promise { Promise (model self.old.field) self.old.words (withdrawing drawer) self.old.drawers self.new.drawers result }
+        ensures promise { Promise (F.model self.old.field) self.old.words (withdrawing drawer) self.old.drawers self.new.drawers result }
         ensures field { self.new.field ≡ self.old.field }
         ensures words { self.new.words ≡ self.old.words }
     {
@@ -122,7 +122,7 @@ impl<F: Field> Shelf<F> {
 
     // Empties a drawer, and answers the number of terms that it held.
     pub fn withdraw(&mut self, drawer: usize) -> Result<usize, Fault>
-        ensures promise { Promise (model self.old.field) self.old.words (withdrawing drawer) self.old.drawers self.new.drawers result }
+        ensures promise { Promise (F.model self.old.field) self.old.words (withdrawing drawer) self.old.drawers self.new.drawers result }
         ensures field { self.new.field ≡ self.old.field }
         ensures words { self.new.words ≡ self.old.words }
     {

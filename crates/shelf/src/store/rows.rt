@@ -22,7 +22,7 @@ fn largest(top: u16, w: usize, n: usize) -> u16
 
 // The largest numbers that three words, or three exponents, may be: q - 1 for each of `n` words, and 0 past them.
 fn tops_of<F: Field>(field: &F, n: usize) -> [u16; 3]
-    ensures { result ≡ tops_for (size (model field.now)) n }
+    ensures { result ≡ tops_for (size (F.model field.now)) n }
 {
     let top = field.order() - 1;
     [largest(top, 0, n), largest(top, 1, n), largest(top, 2, n)]
@@ -45,7 +45,7 @@ fn is_inside(tops: [u16; 3], numbers: [u16; 3]) -> bool
 
 // Whether three words are an input of `n` words over the field.
 pub fn is_input<F: Field>(field: &F, n: usize, words: [u16; 3]) -> bool
-    ensures { MatchBool result (IsInput (model field.now) n words) (IsInput (model field.now) n words → ⊥) }
+    ensures { MatchBool result (IsInput (F.model field.now) n words) (IsInput (F.model field.now) n words → ⊥) }
 {
     is_inside(tops_of(field, n), words)
 }
@@ -65,7 +65,7 @@ fn is_lawful(q: u16, tops: [u16; 3], row: Term<[u16; 3]>) -> bool
 
 // Whether the rows are a polynomial in `n` words; else the first row with which they stop being one.
 pub fn check_rows<F: Field>(field: &F, n: usize, rows: &[Term<[u16; 3]>]) -> Result<(), Fault>
-    ensures { MatchResult result (λ _. Polynomial (model field.now) n rows.now) (λ e. (i : ℕ) × (e ≡ BadCardRow i) × BadRow (model field.now) n rows.now i) }
+    ensures { MatchResult result (λ _. Polynomial (F.model field.now) n rows.now) (λ e. (i : ℕ) × (e ≡ BadCardRow i) × BadRow (F.model field.now) n rows.now i) }
 {
     let q = field.order();
     let tops = tops_of(field, n);

@@ -12,7 +12,7 @@ returns g c =
           (lent c.args.first.now _ p.result p.ensures.is p.ensures.fits)
           (lent c.args.second.now _ s.result s.ensures.is s.ensures.fits)
           (lent c.args.res.now _ r.result r.ensures.is r.ensures.fits))
-          c.fault_of.ensures c.file-card.ensures.promise;
-      field = c.file-card.ensures.field;
-      words = c.file-card.ensures.words;
+          c.fault_of.ensures c.file_card.ensures.promise;
+      field = c.file_card.ensures.field;
+      words = c.file_card.ensures.words;
     }

@@ -1,4 +1,4 @@
-use Rattle.std.proofs.Common.{◌≡◌, ℕ, length, replicate, refl, ap, ◌∙◌}
+use Rattle.std.proofs.Common.{ℕ, length, replicate, refl, ap, ◌∙◌}
 use Rattle.shelf.specs.Rows.{zero_row}
 use Rattle.audit.specs.Faithful.{lent}
 use Rattle.audit.proofs.Law.{audited, relent, calls_named}
@@ -7,7 +7,7 @@ use Rattle.audit.proofs.runs.find.Goals as goal
 pub returns : goal.returns
 returns g c =
     let made = c.new-shelf.ensures in
-    let run = c.run-all-refused in
+    let run = c.run_all-refused in
     let l = c.card-left.auto in
     record {
       faithful = audited g.F.Field.model _ _ c.args.field _ _ _ made.field (run.ensures.field ∙ made.field) made.words (run.ensures.words ∙ made.words)

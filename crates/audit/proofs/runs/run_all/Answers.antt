@@ -1,5 +1,5 @@
-use Rattle.std.proofs.Common.{◌≡◌, length, refl, ◌∙◌}
-use Rattle.audit.specs.Entries.{Tables, tables}
+use Rattle.std.proofs.Common.{◌≡◌, refl, ◌∙◌}
+use Rattle.audit.specs.Entries.{tables}
 use Rattle.audit.proofs.Running.{run_more, run_none, run_whole}
 use Rattle.audit.proofs.runs.run_all.Goals as goal
 

@@ -12,9 +12,9 @@ returns-in-File g c = record {
 
 pub returns-in-FileCard : goal.returns-in-FileCard
 returns-in-FileCard g c = record {
-  steps = renamed _ _ _ _ _ _ _ (sym (ap (call_of (tables (length c.args.work.now) (length c.args.bits_first.now) (length c.args.bits_second.now) (length c.args.first.now) (length c.args.second.now) (length c.args.card.now))) c.in-FileCard.is)) c.file-card.ensures.steps;
-  field = c.file-card.ensures.field;
-  words = c.file-card.ensures.words;
+  steps = renamed _ _ _ _ _ _ _ (sym (ap (call_of (tables (length c.args.work.now) (length c.args.bits_first.now) (length c.args.bits_second.now) (length c.args.first.now) (length c.args.second.now) (length c.args.card.now))) c.in-FileCard.is)) c.file_card.ensures.steps;
+  field = c.file_card.ensures.field;
+  words = c.file_card.ensures.words;
 }
 
 pub returns-in-Withdraw : goal.returns-in-Withdraw
@@ -26,21 +26,21 @@ returns-in-Withdraw g c = record {
 
 pub returns-in-Compare : goal.returns-in-Compare
 returns-in-Compare g c = record {
-  steps = steps _ _ _ _ _ _ _ _ (sym (ap (call_of (tables (length c.args.work.now) (length c.args.bits_first.now) (length c.args.bits_second.now) (length c.args.first.now) (length c.args.second.now) (length c.args.card.now))) c.in-Compare.is)) c.fault-of-in-Compare.ensures c.compare.ensures;
+  steps = steps _ _ _ _ _ _ _ _ (sym (ap (call_of (tables (length c.args.work.now) (length c.args.bits_first.now) (length c.args.bits_second.now) (length c.args.first.now) (length c.args.second.now) (length c.args.card.now))) c.in-Compare.is)) c.fault_of-in-Compare.ensures c.compare.ensures;
   field = refl;
   words = refl;
 }
 
 pub returns-in-Value : goal.returns-in-Value
 returns-in-Value g c = record {
-  steps = steps _ _ _ _ _ _ _ _ (sym (ap (call_of (tables (length c.args.work.now) (length c.args.bits_first.now) (length c.args.bits_second.now) (length c.args.first.now) (length c.args.second.now) (length c.args.card.now))) c.in-Value.is)) c.fault-of-in-Value.ensures c.value.ensures;
+  steps = steps _ _ _ _ _ _ _ _ (sym (ap (call_of (tables (length c.args.work.now) (length c.args.bits_first.now) (length c.args.bits_second.now) (length c.args.first.now) (length c.args.second.now) (length c.args.card.now))) c.in-Value.is)) c.fault_of-in-Value.ensures c.value.ensures;
   field = refl;
   words = refl;
 }
 
 pub returns-in-Card : goal.returns-in-Card
 returns-in-Card g c = record {
-  steps = renamed _ _ _ _ _ _ _ (sym (ap (call_of (tables (length c.args.work.now) (length c.args.bits_first.now) (length c.args.bits_second.now) (length c.args.first.now) (length c.args.second.now) (length c.args.card.now))) c.in-Card.is)) c.card_of_lem.ensures;
+  steps = renamed _ _ _ _ _ _ _ (sym (ap (call_of (tables (length c.args.work.now) (length c.args.bits_first.now) (length c.args.bits_second.now) (length c.args.first.now) (length c.args.second.now) (length c.args.card.now))) c.in-Card.is)) c.card_of.ensures;
   field = refl;
   words = refl;
 }

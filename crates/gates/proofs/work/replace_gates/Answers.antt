@@ -12,7 +12,7 @@ use Rattle.netlist.specs.Meaning.{tail}
 use Rattle.netlist.proofs.Formed.{formed}
 use Rattle.gates.specs.Reductions.{TailTerms}
 use Rattle.gates.specs.Tails.{each, Joins}
-use Rattle.gates.specs.Forms.{Terms-of}
+use Rattle.gates.specs.Forms.{TermsOf}
 use Rattle.gates.proofs.Falls.{led, ends_bits, ends_empty, joins_tail, turn_terms, turn_falls, turn_on, turn_stops}
 use Rattle.gates.proofs.work.replace_gates.Goals as goal
 
@@ -35,7 +35,7 @@ returns-in_default-driver c =
     let b = c.in-Some.ensures in
     let top = c.in-Some-greatest.ensures in
     let g = c.in-Some-greatest.g in
-    let high : g < nets k = (subst (Terms-of k) b.1 c.loop-lead.invariant.3).driven.0 g top.has in
+    let high : g < nets k = (subst (TermsOf k) b.1 c.loop-lead.invariant.3).driven.0 g top.has in
     let input : g < inputs k = ⊎_elim (λ l. l) (λ l. absurd (c.in_default-driver.ensures l high)) (cases_lt g (inputs k)) in
     record {
       same = c.loop-lead.invariant.1;

@@ -5,7 +5,7 @@ use Rattle.terms.specs.declared.nets.NetSet.{NetSet}
 use Rattle.netlist.specs.Netlists.{circuit}
 use Rattle.terms.specs.Additions.{Ended}
 use Rattle.gates.specs.Reductions.{Reduces}
-use Rattle.gates.specs.Forms.{Terms-of}
+use Rattle.gates.specs.Forms.{TermsOf}
 use Rattle.gates.proofs.Falls.{height}
 use Rattle.gates.proofs.work.replace_gates.Given as goal
 
@@ -14,7 +14,7 @@ invariant-loop-lead l =
     let c = circuit l.net in
     let cap = capacity l.initial.table in
     Sound net_model l.table × (l.table.rows.ghost_name ≡ l.initial.table.rows.ghost_name) × (capacity l.table ≡ cap)
-    × Terms-of c (live l.table) × ((e : Ended NetSet) → Reduces c cap (live l.table) e → Reduces c cap (live l.initial.table) e)
+    × TermsOf c (live l.table) × ((e : Ended NetSet) → Reduces c cap (live l.table) e → Reduces c cap (live l.initial.table) e)
 
 abbrev pub decreases-loop-lead : goal.decreases-loop-lead
 decreases-loop-lead l = height (live l.table)

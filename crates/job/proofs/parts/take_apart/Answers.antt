@@ -1,4 +1,4 @@
-use Rattle.std.proofs.Common.{◌≡◌, ℕ, ◌-◌, ◌≤◌, List, [], ◌∷◌, ◌++◌, length, get_or, take, drop, codes, refl, subst, arith, ltb-false, ltb-true, eqb-true}
+use Rattle.std.proofs.Common.{◌≡◌, ℕ, ◌-◌, List, [], ◌∷◌, ◌++◌, length, get_or, take, drop, codes, refl, subst, arith, ltb-false, ltb-true, eqb-true}
 use borrow.Author.Tests.{eqb_apart}
 use Rattle.lines.specs.Text.{Tail}
 use Rattle.lines.proofs.Fronts.{front5}
@@ -12,11 +12,11 @@ take-one (x ∷ xs) e = refl
 pub returns-then-job-gt-LIMIT : goal.returns-then-job-gt-LIMIT
 returns-then-job-gt-LIMIT c = long (omega arith)
 
-pub returns-in-default-cut-tail : goal.returns-in-default-cut-tail
-returns-in-default-cut-tail c =
+pub returns-in_default-cut_tail : goal.returns-in_default-cut_tail
+returns-in_default-cut_tail c =
     let front : c.args.job.now ≡ codes "field" ++ take (length c.args.job.now - 5) (drop 5 c.args.job.now) =
     front5 c.args.job.now 102 105 101 108 100 (omega (arith, ltb-true, ltb-false, eqb-true, eqb_apart)) (omega (arith, ltb-true, ltb-false, eqb-true, eqb_apart)) (omega (arith, ltb-true, ltb-false, eqb-true, eqb_apart)) (omega (arith, ltb-true, ltb-false, eqb-true, eqb_apart)) (omega (arith, ltb-true, ltb-false, eqb-true, eqb_apart)) (omega (arith, ltb-true, ltb-false, eqb-true, eqb_apart)) in
-    form (take (length c.args.job.now - 5) (drop 5 c.args.job.now)) (omega arith) front c.in-default-cut-tail.ensures
+    form (take (length c.args.job.now - 5) (drop 5 c.args.job.now)) (omega arith) front c.in_default-cut_tail.ensures
 
 pub returns : goal.returns
 returns c =

@@ -8,14 +8,14 @@ use Rattle.shelf.proofs.Filing.{ended}
 use Rattle.shelf.proofs.Promises.{promise}
 use Rattle.shelf.proofs.store.Shelf.evaluate.Goals as goal
 
-pub returns-in-err-terms : goal.returns-in-err-terms
-returns-in-err-terms g c =
-    let p = err_from_is_err_and c.from-residual.result c.from-residual.ensures.1 in
-    promise _ (g.met.F.Field.holds c.args.self.now.field) _ c.args.self.now.few (valuing c.args.drawer c.args.words) c.args.self.now.drawers c.args.self.now.drawers _ (ended _ _ _ _ _ _ _ _ _ p.1 p.2 (value_drawer _ _ c.in-err-terms.ensures) (λ d. refl), λ d. refl)
+pub returns-in_err-terms : goal.returns-in_err-terms
+returns-in_err-terms g c =
+    let p = err_from_is_err_and c.from_residual.result c.from_residual.ensures.1 in
+    promise _ (g.met.F.Field.holds c.args.self.now.field) _ c.args.self.now.few (valuing c.args.drawer c.args.words) c.args.self.now.drawers c.args.self.now.drawers _ (ended _ _ _ _ _ _ _ _ _ p.1 p.2 (value_drawer _ _ c.in_err-terms.ensures) (λ d. refl), λ d. refl)
 
-pub returns-then-not-is-input : goal.returns-then-not-is-input
-returns-then-not-is-input g c =
-    promise _ (g.met.F.Field.holds c.args.self.now.field) _ c.args.self.now.few (valuing c.args.drawer c.args.words) c.args.self.now.drawers c.args.self.now.drawers _ ((value_word _ _ _ c.in-ok-terms.ensures.0 c.if-not-is-input.ensures, λ d. refl), λ d. refl)
+pub returns-then-not-is_input : goal.returns-then-not-is_input
+returns-then-not-is_input g c =
+    promise _ (g.met.F.Field.holds c.args.self.now.field) _ c.args.self.now.few (valuing c.args.drawer c.args.words) c.args.self.now.drawers c.args.self.now.drawers _ ((value_word _ _ _ c.in_ok-terms.ensures.0 c.if-not-is_input.ensures, λ d. refl), λ d. refl)
 
 pub returns : goal.returns
 returns g c =
@@ -23,9 +23,9 @@ returns g c =
     promise _ (g.met.F.Field.holds c.args.self.now.field) _ c.args.self.now.few (valuing c.args.drawer c.args.words) c.args.self.now.drawers c.args.self.now.drawers _ (
       record {
         form = _;
-        shown = c.in-ok-terms.ensures.0;
-        input = c.if-not-is-input.ensures;
-        value = c.value.ensures.right w ∙ ap (λ (k : ℕ). value_under (bit_at k c.args.words) c.in-ok-terms.terms.now) c.width.ensures;
+        shown = c.in_ok-terms.ensures.0;
+        input = c.if-not-is_input.ensures;
+        value = c.value.ensures.right w ∙ ap (λ (k : ℕ). value_under (bit_at k c.args.words) c.in_ok-terms.terms.now) c.width.ensures;
       },
       λ d. refl,
     )

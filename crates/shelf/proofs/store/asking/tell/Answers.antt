@@ -5,4 +5,4 @@ use Rattle.shelf.proofs.store.asking.tell.Goals as goal
 
 pub returns : goal.returns
 returns c = subst (Told c.args.width c.args.left.now c.args.right.now) (sym c.difference.ensures)
-    (told_apart _ _ _ _ _ _ _ c.requires.width c.in-Some.ensures c.input-of-words.ensures c.value-here.ensures c.value-there.ensures)
+    (told_apart _ _ _ _ _ _ _ c.requires.width c.in-Some.ensures c.input_of-words.ensures c.value-here.ensures c.value-there.ensures)

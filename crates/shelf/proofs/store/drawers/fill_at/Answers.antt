@@ -1,4 +1,4 @@
-use Rattle.std.proofs.Common.{◌≡◌, ◌<◌, cond, eqb, length, ap, ◌∙◌, arith}
+use Rattle.std.proofs.Common.{◌<◌, cond, eqb, length, ap, ◌∙◌, arith}
 use Rattle.std.proofs.lemmas.List.{length-set}
 use Rattle.shelf.specs.Held.{held_at}
 use Rattle.shelf.proofs.Drawers.{put_at}

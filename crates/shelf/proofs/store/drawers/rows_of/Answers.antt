@@ -1,4 +1,4 @@
-use Rattle.std.proofs.Common.{◌≡◌, ◌≤◌, length, take, ap, ◌∙◌, arith, rules}
+use Rattle.std.proofs.Common.{◌≤◌, length, take, ap, ◌∙◌, arith, rules}
 use lib.Seq.{take-append-le}
 use Rattle.std.proofs.lemmas.List.{take_all}
 use Rattle.shelf.proofs.store.drawers.rows_of.Goals as goal
@@ -9,5 +9,5 @@ returns c =
     let l : n ≤ n = omega arith in
     record {
       all = search rules;
-      front = ap (take n) c.copy-front.ensures ∙ rw take-append-le (take_all n c.args.form.now l);
+      front = ap (take n) c.copy_front.ensures ∙ rw take-append-le (take_all n c.args.form.now l);
     }
