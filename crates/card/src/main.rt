@@ -1,5 +1,7 @@
 // Reads one job from standard input, and writes its card or its refusal. With the argument `--steps`, what each
 // step did goes to standard error.
+#![tactic(auto)]
+
 use field::Field;
 use gates::bit_form;
 use job::answer::answer;

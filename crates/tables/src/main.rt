@@ -1,4 +1,6 @@
 // Prints tables of the fields; `stdout` has them as they are published, or as tools/tables.py finds them by polynomials.
+#![tactic(auto)]
+
 use field::Field;
 use field::dual::{duals, trace};
 use field::log::Log;

@@ -1,5 +1,7 @@
 // Runs a table of jobs, which it reads from standard input: each stands behind a line `NAME BYTES` and is
 // followed by a line feed. It writes each job's name, then its answer, and for a card what going there and back gave.
+#![tactic(auto)]
+
 mod rounds;
 
 use job::answer::answer;
