@@ -207,7 +207,6 @@ fn expand<S: Copy, M: Copy, K: Kind<M>, F: Field, H: Holds<S>>(
 ) -> Result<(), Full>
     requires whole { Whole factors.now }
     requires owned { Monos (λ m. (K.Kind.model kind.now).own m ≡ true) factors.now.sums.now }
-    requires first { Sound (K.Kind.model kind.now) first.old }
     requires second { Sound (K.Kind.model kind.now) second.old }
     requires rooms { capacity second.old ≡ capacity first.old }
     ensures same1 { first.new.rows.ghost_name ≡ first.old.rows.ghost_name }
@@ -218,13 +217,13 @@ fn expand<S: Copy, M: Copy, K: Kind<M>, F: Field, H: Holds<S>>(
     ensures sound2 { Sound (K.Kind.model kind.now) second.new }
     ensures worked { Expanded (expanding (K.Kind.model kind.now) (product (F.Field.model field.now)) (capacity first.old) c (factors_of factors.now (H.Holds.held source.now s))) (live first.new) result }
 {
-    first.reset(kind);
+    first.clear(kind);
     first.add(kind, c, kind.unit())?;
     multiply_out(kind, field, source, s, factors, first, second)?;
     Ok(())
 }
 
-// Converts each term in turn, and adds what it makes to `result`.
+// Converts each term in turn, and adds what it makes to `res`.
 fn work<S: Copy, M: Copy, K: Kind<M>, F: Field, H: Holds<S>>(
     kind: &K,
     field: &F,
@@ -306,7 +305,7 @@ fn smaller(a: usize, b: usize) -> usize
     if a < b { a } else { b }
 }
 
-// Converts the terms into `result`, and answers how many terms it has then. The product tables' capacity is the smaller of their lengths.
+// Converts the terms into `res`, and answers how many terms it has then. The product tables' capacity is the smaller of their lengths.
 pub fn convert<S: Copy, M: Copy, K: Kind<M>, F: Field, H: Holds<S>>(
     kind: &K,
     field: &F,
