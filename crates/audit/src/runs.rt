@@ -4,7 +4,7 @@ ghost use Rattle.terms.specs.Nets.{net_model};
 ghost use Rattle.terms.specs.Terms.{blank};
 ghost use Rattle.cards.specs.Sums.{card_kind};
 ghost use Rattle.cards.specs.Working.{word_count};
-ghost use Rattle.ledger.specs.Answers.{fault-in};
+ghost use Rattle.ledger.specs.Answers.{fault_in};
 ghost use Rattle.ledger.specs.Rules.{filing, card_filing, comparing, valuing, carding};
 ghost use Rattle.shelf.specs.Promises.{Promise};
 ghost use Rattle.audit.specs.Entries.{tables, call_of, calls_of, kept, named, AllFit};
@@ -30,7 +30,7 @@ fn smaller(a: usize, b: usize) -> usize
 
 // The refusal in an answer.
 fn fault_of<T: Drop>(answer: Result<T, Fault>) -> Option<Fault>
-    ensures { result ≡ fault-in answer }
+    ensures { result ≡ fault_in answer }
 {
     match answer {
         Ok(_) => None,

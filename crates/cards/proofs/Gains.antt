@@ -107,14 +107,14 @@ module _ (m : FieldData) (l : FieldLaws m) where
         → (is ts us : List (Term (List ℕ))) → Gained m k p bits [] is → OwnTerms m k ts → adding k cap (all_products k (product m) is (block m.width sums p)) ts ≡ done us → Gained m k (suc p) bits ts us
     product_gained few sums b p h cap bits held is ts us g o e =
         let f = block m.width sums p in
-        let own-f : Monos (λ r. k.own r ≡ true) f = monos_take (λ r. k.own r ≡ true) m.width _ (monos_drop (λ r. k.own r ≡ true) (p * m.width) sums b.own) in
+        let own_f : Monos (λ r. k.own r ≡ true) f = monos_take (λ r. k.own r ≡ true) m.width _ (monos_drop (λ r. k.own r ≡ true) (p * m.width) sums b.own) in
         let adds = all_products k (product m) is f in
         let codes : Codes (λ c. c < q) us = (adding_value m l k L [] cap adds ts us (all_codes m l k is f) o.codes e).1 in
         record {
-          own = record { rows = adding_monos k L (product m) (λ r. k.own r ≡ true) cap adds ts us (all_own k L (product m) is f g.own.rows own-f) o.rows e; codes = codes };
+          own = record { rows = adding_monos k L (product m) (λ r. k.own r ≡ true) cap adds ts us (all_own k L (product m) is f g.own.rows own_f) o.rows e; codes = codes };
           values = λ xs x.
               same_val n xs x us codes ∙ (adding_value m l k L xs cap adds ts us (all_codes m l k is f) o.codes e).0
-              ∙ ap₂ bit_xor (all_value m l n xs x is f g.own.rows own-f ∙ under xs x) (sym (same_val n xs x ts o.codes));
+              ∙ ap₂ bit_xor (all_value m l n xs x is f g.own.rows own_f ∙ under xs x) (sym (same_val n xs x ts o.codes));
         }
       where
         wp : 0 < m.width

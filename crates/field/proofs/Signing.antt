@@ -102,13 +102,13 @@ module _ (m : FieldData) (l : FieldLaws m) where
   -- a code with the signature of the dual of bit i is that dual
   pub dual_by_signature : (i d e : ℕ) → Dual m i d → e < size m → signature m e ≡ signature m d → Dual m i e
   dual_by_signature i d e dual h same =
-      let as-told : (j : ℕ) → j < m.width → told e j ≡ told d j = λ j k. sym (signature_bit e j k) ∙ ap (λ s. bit_b s j) same ∙ signature_bit d j k in
+      let as_told : (j : ℕ) → j < m.width → told e j ≡ told d j = λ j k. sym (signature_bit e j k) ∙ ap (λ s. bit_b s j) same ∙ signature_bit d j k in
       record {
         index = dual.index;
         code = h;
-        own = eqb-true _ _ (as-told i dual.index ∙ eq-eqb _ _ dual.own);
+        own = eqb-true _ _ (as_told i dual.index ∙ eq-eqb _ _ dual.own);
         others = λ j k n. apart (trace_values (product m e (2 ^ j)) (product_below m l e (2 ^ j)))
-            (eqb-false _ _ (as-told j k ∙ ne_eqb _ _ (λ o. l.one_is_not_zero (sym o ∙ dual.others j k n))));
+            (eqb-false _ _ (as_told j k ∙ ne_eqb _ _ (λ o. l.one_is_not_zero (sym o ∙ dual.others j k n))));
       }
     where
       apart : {t : ℕ} → (t ≡ 0) ⊎ (t ≡ m.one) → (t ≡ m.one → ⊥) → t ≡ 0

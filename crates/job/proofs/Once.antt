@@ -112,14 +112,14 @@ module _ (job : List ℕ) where
 
   not_bad : {f : Fault} → BadJob job f → (a : Option ℕ) (t : List ℕ) → length job ≤ 16384 → Parts job a t → ⊥
   not_bad (long h) a t l x = omega arith
-  not_bad (form rest l e none-fits) None t _ x = x.1 rest e
-  not_bad (form rest l e none-fits) (Some p) t _ x = none-fits (p ∷ []) t (subst (λ (z : List ℕ). Tail z 1 (p ∷ []) t) (same_rest x.1 e) x.2)
+  not_bad (form rest l e none_fits) None t _ x = x.1 rest e
+  not_bad (form rest l e none_fits) (Some p) t _ x = none_fits (p ∷ []) t (subst (λ (z : List ℕ). Tail z 1 (p ∷ []) t) (same_rest x.1 e) x.2)
 
   one_bad : {f g : Fault} → BadJob job f → BadJob job g → f ≡ g
   one_bad (long h) (long i) = refl
-  one_bad (long h) (form rest l e none-fits) = absurd (omega arith)
-  one_bad (form rest l e none-fits) (long h) = absurd (omega arith)
-  one_bad (form rest l e none-fits) (form rest' l' e' none-fits') = refl
+  one_bad (long h) (form rest l e none_fits) = absurd (omega arith)
+  one_bad (form rest l e none_fits) (long h) = absurd (omega arith)
+  one_bad (form rest l e none_fits) (form rest' l' e' none_fits') = refl
 
   -- why a job of right form is refused
   data Later (a : Option ℕ) (t : List ℕ) (f : Fault) : Type 0 where

@@ -16,7 +16,7 @@ use Rattle.ledger.specs.declared.Compared.TheVariants.{Same, Differ}
 use Rattle.ledger.specs.Filings.{Filing, text, rows, IsForm}
 use Rattle.ledger.specs.Rules.{Call, filing, card_filing, withdrawing, comparing, valuing, carding, Free, NotFree, Shows, ShowsNothing, Refused, beyond, filled, empty, file_drawer, file_reader, file_bits, rows_drawer, rows_bad, rows_bits, withdraw_drawer, compare_first, compare_second, compare_first_empty, compare_second_empty, value_drawer, value_word, card_drawer, card_full}
 use Rattle.ledger.specs.Ledgers.{Ledger, put, Due, After, refused, accepted, enters_text, enters_rows, enters_none, compare_leaves, value_leaves, card_leaves}
-use Rattle.ledger.specs.Answers.{Answer, CardTable, words_of, Apart, Tells, Right, fault-in}
+use Rattle.ledger.specs.Answers.{Answer, CardTable, words_of, Apart, Tells, Right, fault_in}
 use Rattle.ledger.specs.Drawers.{Held, Itself, SameHeld, Puts, Difference, Told, Does}
 use Rattle.ledger.specs.Laws.{Stands, Holds, Turn}
 use Rattle.ledger.proofs.Forms.{text_form, rows_form, one_bit_form, form_card}
@@ -127,7 +127,7 @@ module _ (m : FieldData) (n : ℕ) where
           table_is = sym (take-append-drop j table) ∙ ap (λ z. take j table ++ z) (t.rest ∙ ap (λ (i : ℕ). replicate i (blank (card_kind m n))) (ap₂ (λ (a b : ℕ). a - b) long (sym count)));
         }
 
-    file_turn : (d : ℕ) (bytes : List ℕ) (w : ℕ) (r : Result ℕ Fault) → Does m n at at' (filing d bytes w) r → Right m n L (filing d bytes w) r × ((L' : Ledger) × After m n L (filing d bytes w) (fault-in r) L' × Holds m n L' at')
+    file_turn : (d : ℕ) (bytes : List ℕ) (w : ℕ) (r : Result ℕ Fault) → Does m n at at' (filing d bytes w) r → Right m n L (filing d bytes w) r × ((L' : Ledger) × After m n L (filing d bytes w) (fault_in r) L' × Holds m n L' at')
     file_turn d bytes w (Err e) x = refusal (filing d bytes w) e x.0 x.1
     file_turn d bytes w (Ok j) x =
         let none = file_none m l n L (IsForm m n) (one_bit_form m n) d bytes w (free L at holds d x.free) x.circuit x.accepted x.form x.found in
@@ -141,7 +141,7 @@ module _ (m : FieldData) (n : ℕ) where
         )
 
     rows_turn : (d : ℕ) (ts : List (Term (List ℕ))) (p s t : ℕ) (r : Result ℕ Fault) → Does m n at at' (card_filing d ts p s t) r
-        → Right m n L (card_filing d ts p s t) r × ((L' : Ledger) × After m n L (card_filing d ts p s t) (fault-in r) L' × Holds m n L' at')
+        → Right m n L (card_filing d ts p s t) r × ((L' : Ledger) × After m n L (card_filing d ts p s t) (fault_in r) L' × Holds m n L' at')
     rows_turn d ts p s t (Err e) x = refusal (card_filing d ts p s t) e x.0 x.1
     rows_turn d ts p s t (Ok j) x =
         let none = rows_none m l n L (IsForm m n) (one_bit_form m n) d ts p s t (free L at holds d x.free) x.polynomial x.form x.worked x.few in
@@ -150,7 +150,7 @@ module _ (m : FieldData) (n : ℕ) where
           (put L d (Some (rows ts)), accepted (put L d (Some (rows ts))) none (enters_rows d ts p s t), entered L at holds at' d (Some (rows ts)) (Some x.form) (x.polynomial, form) x.held),
         )
 
-    withdraw_turn : (d : ℕ) (r : Result ℕ Fault) → Does m n at at' (withdrawing d) r → Right m n L (withdrawing d) r × ((L' : Ledger) × After m n L (withdrawing d) (fault-in r) L' × Holds m n L' at')
+    withdraw_turn : (d : ℕ) (r : Result ℕ Fault) → Does m n at at' (withdrawing d) r → Right m n L (withdrawing d) r × ((L' : Ledger) × After m n L (withdrawing d) (fault_in r) L' × Holds m n L' at')
     withdraw_turn d (Err e) x = refusal (withdrawing d) e x.0 x.1
     withdraw_turn d (Ok j) x =
         let f = filed L at holds d x.form x.shown.filled in
@@ -163,7 +163,7 @@ module _ (m : FieldData) (n : ℕ) where
     form_at : (d : ℕ) (us : List (Term NetSet)) → at d ≡ Some us → (f : Filing) → L d ≡ Some f → IsForm m n f us
     form_at d us e f h = let x = filed L at holds d us e in subst (λ (g : Filing). IsForm m n g us) (some_is (L d) x.filing f x.is h) x.form
 
-    value_turn : (d : ℕ) (xs : List ℕ) (r : Result ℕ Fault) → Does m n at at' (valuing d xs) r → Right m n L (valuing d xs) r × ((L' : Ledger) × After m n L (valuing d xs) (fault-in r) L' × Holds m n L' at')
+    value_turn : (d : ℕ) (xs : List ℕ) (r : Result ℕ Fault) → Does m n at at' (valuing d xs) r → Right m n L (valuing d xs) r × ((L' : Ledger) × After m n L (valuing d xs) (fault_in r) L' × Holds m n L' at')
     value_turn d xs (Err e) x = refusal (valuing d xs) e x.0.0 x.1
     value_turn d xs (Ok v) x =
         let y = x.0 in
@@ -174,7 +174,7 @@ module _ (m : FieldData) (n : ℕ) where
         )
 
     card_turn : (d p s c : ℕ) (r : Result ℕ Fault) (table : List (Term (List ℕ))) → Does m n at at' (carding d p s c) (r, table)
-        → Right m n L (carding d p s c) (r, table) × ((L' : Ledger) × After m n L (carding d p s c) (fault-in r) L' × Holds m n L' at')
+        → Right m n L (carding d p s c) (r, table) × ((L' : Ledger) × After m n L (carding d p s c) (fault_in r) L' × Holds m n L' at')
     card_turn d p s c (Err e) table x = let y = refusal (carding d p s c) e x.0.0 x.1 in ((y.0, x.0.1), y.1)
     card_turn d p s c (Ok j) table x =
         let us = x.0.0 in
@@ -211,7 +211,7 @@ module _ (m : FieldData) (n : ℕ) where
     told us vs f g a b Same e = λ xs i. sym (a.values xs i) ∙ ap (value_under (bit_at m.width xs)) e ∙ b.values xs i
     told us vs f g a b (Differ x) y = apart us vs f g x a b y
 
-    compare_turn : (d b : ℕ) (r : Result Compared Fault) → Does m n at at' (comparing d b) r → Right m n L (comparing d b) r × ((L' : Ledger) × After m n L (comparing d b) (fault-in r) L' × Holds m n L' at')
+    compare_turn : (d b : ℕ) (r : Result Compared Fault) → Does m n at at' (comparing d b) r → Right m n L (comparing d b) r × ((L' : Ledger) × After m n L (comparing d b) (fault_in r) L' × Holds m n L' at')
     compare_turn d b (Err e) x = refusal (comparing d b) e x.0.0 x.1
     compare_turn d b (Ok v) x =
         let y = x.0 in

@@ -71,18 +71,18 @@ Answer (valuing d xs) = Result ℕ Fault
 Answer (carding d p s c) = Result ℕ Fault × List (Term (List ℕ))
 
 -- the refusal in an answer
-abbrev pub fault-in : {A : Type 0} → Result A Fault → Option Fault
-fault-in (Ok v) = None
-fault-in (Err e) = Some e
+abbrev pub fault_in : {A : Type 0} → Result A Fault → Option Fault
+fault_in (Ok v) = None
+fault_in (Err e) = Some e
 
 -- the refusal of a call, by its answer
 abbrev pub fault_of : (c : Call) → Answer c → Option Fault
-fault_of (filing d bytes w) r = fault-in r
-fault_of (card_filing d ts p s t) r = fault-in r
-fault_of (withdrawing d) r = fault-in r
-fault_of (comparing d b) r = fault-in r
-fault_of (valuing d xs) r = fault-in r
-fault_of (carding d p s c) a = fault-in a.0
+fault_of (filing d bytes w) r = fault_in r
+fault_of (card_filing d ts p s t) r = fault_in r
+fault_of (withdrawing d) r = fault_in r
+fault_of (comparing d b) r = fault_in r
+fault_of (valuing d xs) r = fault_in r
+fault_of (carding d p s c) a = fault_in a.0
 
 module _ (m : FieldData) (n : ℕ) where
   -- A call is refused exactly with the refusal that is due; where none is due, it is accepted, and P holds of what it answers.

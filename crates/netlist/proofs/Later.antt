@@ -30,11 +30,11 @@ module _ (k d at : ℕ) (s : List ℕ) where
 
   -- with no line of right form
   at_form : {f : Fault} → (s ≡ [] → ⊥) → ((o : Op) (vs rest : List ℕ) → Line k s (head.Gate o) vs rest → ⊥) → ((vs rest : List ℕ) → Line k s Out vs rest → ⊥) → BadEntry k d at s f → WrongForm at ≡ f
-  at_form h no_gate no-out (no_line e) = absurd (h e)
-  at_form h no_gate no-out (line_form _ _ _) = refl
-  at_form h no_gate no-out (gate_over o vs r l _) = absurd (no_gate _ _ _ l)
-  at_form h no_gate no-out (gate_undriven o vs r l _ _) = absurd (no_gate _ _ _ l)
-  at_form h no_gate no-out (out_undriven vs r l _) = absurd (no-out _ _ l)
+  at_form h no_gate no_out (no_line e) = absurd (h e)
+  at_form h no_gate no_out (line_form _ _ _) = refl
+  at_form h no_gate no_out (gate_over o vs r l _) = absurd (no_gate _ _ _ l)
+  at_form h no_gate no_out (gate_undriven o vs r l _ _) = absurd (no_gate _ _ _ l)
+  at_form h no_gate no_out (out_undriven vs r l _) = absurd (no_out _ _ l)
 
   -- with the line of a gate
   at_gate : {f : Fault} {o : Op} {vs r : List ℕ} → Line k s (head.Gate o) vs r → BadEntry k d at s f

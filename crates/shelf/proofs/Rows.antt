@@ -40,12 +40,12 @@ module _ (ts xs : List ℕ) (tl : length ts ≡ 3) (xl : length xs ≡ 3) where
   pub third_decides : get_or xs 0 0 ≤ get_or ts 0 0 → get_or xs 1 0 ≤ get_or ts 1 0 → leb (get_or xs 2 0) (get_or ts 2 0) ≡ inside ts xs
   third_decides h k = sym (three ∙ third_of (at 0) (at 1) (at 2) (le-leb (get_or xs 0 0) (get_or ts 0 0) h) (le-leb (get_or xs 1 0) (get_or ts 1 0) k))
 
-module _ (m : FieldData) (n q : ℕ) (tops : List ℕ) (is-q : q ≡ size m) (are-tops : tops ≡ tops_for (size m) n) where
+module _ (m : FieldData) (n q : ℕ) (tops : List ℕ) (is_q : q ≡ size m) (are_tops : tops ≡ tops_for (size m) n) where
   lawful_at : (r : Term (List ℕ)) → Lawful q tops r → Lawful (size m) (tops_for (size m) n) r
-  lawful_at r h = subst₂ (λ (p : ℕ) (ts : List ℕ). Lawful p ts r) is-q are-tops h
+  lawful_at r h = subst₂ (λ (p : ℕ) (ts : List ℕ). Lawful p ts r) is_q are_tops h
 
   lawful_here : (r : Term (List ℕ)) → Lawful (size m) (tops_for (size m) n) r → Lawful q tops r
-  lawful_here r h = subst₂ (λ (p : ℕ) (ts : List ℕ). Lawful p ts r) (sym is-q) (sym are-tops) h
+  lawful_here r h = subst₂ (λ (p : ℕ) (ts : List ℕ). Lawful p ts r) (sym is_q) (sym are_tops) h
 
   module _ (i : ℕ) (ts : List (Term (List ℕ))) (d : Term (List ℕ)) (there : i < length ts) (before : Polynomial m n (take i ts)) where
     -- a row that is not lawful is the first bad one

@@ -193,7 +193,7 @@ taken_out s g l o = (_, net_out s.words g l (inside_length full_words s.words o)
 -- ---- the greatest net
 -- the highest bit of the highest word that is not 0
 pub top_net : (ws : List ℕ) (i j : ℕ) → j < 64 → 2 ^ j ≤ get_or ws i 0 → get_or ws i 0 < 2 ^ suc j → ((k : ℕ) → i < k → get_or ws k 0 ≡ 0) → Top (net_set ws) (i * 64 + j)
-top_net ws i j l low_end high_end zero-above = record {
+top_net ws i j l low_end high_end zero_above = record {
   has =
       ap₂ (λ m n. eqb (get_or ws m 0 / 2 ^ n % 2) 1) (div-mul-add i 64 j l) (mod-mul-add i 64 j l)
       ∙ ap (λ x. eqb (x % 2) 1) (div-eq_of_lt-le {k = 1} (2 ^ j) {m = get_or ws i 0} (omega arith) (omega (arith, pow_two)));
@@ -213,7 +213,7 @@ top_net ws i j l low_end high_end zero-above = record {
         let p : 2 ^ suc j ≤ 2 ^ (h % 64) = pow_mono {i = suc j} {j = h % 64} k in
         let q : get_or ws i 0 < 2 ^ (h % 64) = omega arith in
         ap (λ n. eqb (get_or ws n 0 / 2 ^ (h % 64) % 2) 1) (sym e) ∙ ap (λ x. eqb (x % 2) 1) (div-eq_of_lt q))
-        (λ d. no_bit h (zero-above (h / 64) (omega arith)))
+        (λ d. no_bit h (zero_above (h / 64) (omega arith)))
         (cases_eq i (h / 64))
       where
         no_bit : (h : ℕ) → get_or ws (h / 64) 0 ≡ 0 → holds (net_set ws) h ≡ false

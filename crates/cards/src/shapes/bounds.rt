@@ -2,7 +2,7 @@
 ghost use Rattle.std.specs.Prelude.{◌≡◌, ◌+◌, ◌*◌, ◌<◌, ◌≤◌, T, [], ◌∷◌};
 ghost use Rattle.algebra.specs.Lists.{Mem};
 ghost use Rattle.terms.specs.Sets.{holds};
-ghost use Rattle.cards.specs.Shapes.{counts, bump, counted, exponents as exponents-of, rows as rows_of_lem};
+ghost use Rattle.cards.specs.Shapes.{counts, bump, counted, exponents as exponents_in, rows as rows_in};
 
 use super::Shape;
 use terms::nets::NetSet;
@@ -54,7 +54,7 @@ pub(super) fn shape(s: NetSet, width: usize, places: usize) -> Shape
 fn exponents(width: usize, order: usize, s: usize) -> usize
     requires narrow { width ≤ 8 }
     requires small { order ≤ 256 }
-    ensures value { result ≡ exponents-of width order s }
+    ensures value { result ≡ exponents_in width order s }
     ensures most { result ≤ 256 }
 {
     let mut count = 1;
@@ -68,7 +68,7 @@ fn exponents(width: usize, order: usize, s: usize) -> usize
 pub(super) fn rows(width: usize, order: usize, x: Shape) -> usize
     requires narrow { width ≤ 8 }
     requires small { order ≤ 256 }
-    ensures value { result ≡ rows_of_lem width order (counts x) }
+    ensures value { result ≡ rows_in width order (counts x) }
     ensures most { result ≤ 16777216 }
 {
     let a = exponents(width, order, x.first);
