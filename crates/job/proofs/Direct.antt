@@ -1,5 +1,5 @@
 -- From what the workings answer, with no shelf, to what is answered to the job. Assumes nothing.
-use Rattle.std.proofs.Common.{◌≡◌, ℕ, zero, suc, ◌-◌, ◌/◌, ◌%◌, ◌^◌, ◌<◌, ◌≤◌, eqb, List, length, take, drop, Ok, Err, sym, refl, ap, ◌∙◌, subst, subst₂, div-lt_iff_lt-mul, arith, length-take-le, get_or-take}
+use Rattle.std.proofs.Common.{◌≡◌, ℕ, ◌-◌, ◌≤◌, List, length, take, drop, Ok, Err, sym, ap, ◌∙◌, subst, subst₂, arith}
 use lib.Seq.{take-append-le}
 use Rattle.std.proofs.lemmas.List.{take_all}
 use Rattle.algebra.specs.Field.{FieldData, size}
@@ -12,24 +12,16 @@ use Rattle.terms.specs.Values.{value_under, bit_at}
 use Rattle.terms.specs.BothKinds.{inside_length}
 use Rattle.terms.specs.declared.Term.{Term}
 use Rattle.terms.specs.declared.nets.NetSet.{NetSet}
-use Rattle.netlist.specs.Circuits.{Circuit, WellFormed, inputs}
+use Rattle.netlist.specs.Circuits.{Circuit, WellFormed}
 use Rattle.netlist.specs.Meaning.{output_at}
 use Rattle.gates.specs.Answers.{Found}
 use Rattle.gates.specs.Forms.{BitForm}
-use Rattle.terms.proofs.Values.{value_at_agree}
-use Rattle.gates.proofs.Ends.{value_at_words}
 use Rattle.cards.specs.Law.{IsInput, BitTerms, CardOf}
 use Rattle.cards.specs.Working.{word_count, CardAnswered}
+use Rattle.ledger.proofs.Forms.{form_outputs}
+use Rattle.shelf.proofs.Filing.{counted}
 use Rattle.job.specs.Answers.{Carded, CardOfCircuit, Refused, words}
 use Rattle.job.specs.Jobs.{Opened}
-
--- one to three words count as they are
-counted : (n : ℕ) → 1 ≤ n → n ≤ 3 → word_count n ≡ n
-counted zero l h = absurd (omega arith)
-counted (suc zero) l h = refl
-counted (suc (suc zero)) l h = refl
-counted (suc (suc (suc zero))) l h = refl
-counted (suc (suc (suc (suc n)))) l h = absurd (omega arith)
 
 -- the terms in the first rows of a table
 pub front : (rows us : List (Term NetSet)) (n : ℕ) → rows ≡ padded net_model 512 us → n ≡ length us → take (n - 0) (drop 0 rows) ≡ us
@@ -37,17 +29,6 @@ front rows us n e h =
     let z : n - 0 ≡ length us = omega arith in
     let l : length us ≤ length us = omega arith in
     ap (λ (i : ℕ). take i rows) z ∙ ap (take (length us)) e ∙ rw take-append-le (take_all (length us) us l)
-
--- the bit form's value at three numbers, of which the first are the circuit's words
-form_outputs : (c : Circuit) (us : List (Term NetSet)) (k : ℕ) (xs : List ℕ) → c.width ≡ k → WellFormed c → BitForm c us → length xs ≡ 3
-    → value_under (bit_at k xs) us ≡ output_at c (take c.words xs)
-form_outputs c us k xs e w b l =
-    let some : 0 < c.width = let r = w.range.some_bits in omega arith in
-    let few : c.words ≤ length xs = let r = w.range.few_words in omega arith in
-    ap (λ (j : ℕ). value_under (bit_at j xs) us) (sym e)
-    ∙ value_at_agree (bit_at c.width xs) (bit_at c.width (take c.words xs)) (inputs c)
-    (λ i h. ap (λ (x : ℕ). eqb (x / 2 ^ (i % c.width) % 2) 1) (sym (get_or-take c.words xs (i / c.width) 0 ((div-lt_iff_lt-mul some).1 h)))) us b.no_gate
-    ∙ value_at_words c us (take c.words xs) w b (length-take-le c.words xs few)
 
 -- the card of a circuit's bit form is the circuit's
 card_of_circuit : (m : FieldData) (c : Circuit) (us : List (Term NetSet)) (ts : List (Term (List ℕ))) → c.width ≡ m.width → WellFormed c → BitForm c us

@@ -20,7 +20,7 @@ use Rattle.cards.proofs.FormLaw.{with_bits, with_bits_input, with_bits_at}
 use Rattle.ledger.specs.Filings.{Filing, text, rows, output, IsForm, IsCard}
 
 -- the bit form's value at three numbers, of which the first are the circuit's words
-form_outputs : (c : Circuit) (us : List (Term NetSet)) (k : ℕ) (xs : List ℕ) → c.width ≡ k → WellFormed c → CircuitForm c us → length xs ≡ 3
+pub form_outputs : (c : Circuit) (us : List (Term NetSet)) (k : ℕ) (xs : List ℕ) → c.width ≡ k → WellFormed c → CircuitForm c us → length xs ≡ 3
     → value_under (bit_at k xs) us ≡ output_at c (take c.words xs)
 form_outputs c us k xs e w b l =
     let some : 0 < c.width = let r = w.range.some_bits in omega arith in
