@@ -1,5 +1,5 @@
 -- The sums of the places, by their terms. Assumes nothing.
-use Rattle.std.proofs.Common.{◌≡◌, ℕ, zero, suc, ◌+◌, ◌-◌, ◌*◌, ◌/◌, ◌%◌, ◌^◌, ◌<◌, ◌≤◌, Bool, true, cond, ltb, leb, List, [], ◌∷◌, ◌++◌, length, get_or, take, drop, set, replicate, Result, sym, refl, ap, ◌∙◌, subst, ap₂, subst₂, mod-eq_of_lt, div-lt_iff_lt-mul, mul-le-mul, arith, length-drop, get_or-drop}
+use Rattle.std.proofs.Common.{◌≡◌, ℕ, zero, suc, ◌+◌, ◌-◌, ◌*◌, ◌/◌, ◌%◌, ◌^◌, ◌<◌, ◌≤◌, Bool, true, cond, ltb, leb, List, [], ◌∷◌, ◌++◌, length, get_or, take, drop, set, Result, sym, refl, ap, ◌∙◌, subst, ap₂, subst₂, ⊎_elim, one-mul, mod-eq_of_lt, div-lt_iff_lt-mul, mul-le-mul, arith, length-drop, get_or-drop}
 use native.Mathlib.Nat.{div-eq_of_lt}
 use lib.Arith.{digits_div, digits_mod, digits_lt}
 use lib.Pow.{pow-lt, le_ones}
@@ -7,6 +7,7 @@ use Rattle.std.proofs.lemmas.List.{take_more}
 use Rattle.std.proofs.lemmas.Bool.{le-leb, lt-ltb, and_from, cond-true}
 use Rattle.algebra.specs.Field.{FieldData, FieldLaws, size, product}
 use Rattle.algebra.specs.Ops.{at_row}
+use Rattle.algebra.proofs.Reduce.{lt_or_le}
 use Rattle.terms.specs.Exps.{limit, tops_for}
 use Rattle.terms.specs.Kind.{KindModel}
 use Rattle.terms.specs.Nets.{net_model}
@@ -20,19 +21,24 @@ use Rattle.terms.proofs.Changes.{single}
 use Rattle.terms.proofs.Changes as terms
 use Rattle.convert.specs.Places.{row_held}
 use Rattle.convert.specs.declared.FullTable.{FullTable}
-use Rattle.cards.specs.Sums.{listed, bit_term, bit_sum, card_kind, BitSums, single_net, word_term, word_sum, WordSums}
+use Rattle.cards.specs.Sums.{listed, bit_term, card_kind, BitSums, single_net, word_term, WordSums}
 use Rattle.cards.specs.BitsWorking.{word_factors}
 use Rattle.cards.specs.Working.{bit_factors}
 
 -- ---- own rows
-pub monos_set : {M : Type 0} (P : M → Type 0) (ts : List (Term M)) (i : ℕ) (t : Term M) → Monos P ts → P t.mono → Monos P (set ts i t)
-monos_set P [] i t u h = tt
-monos_set P (s ∷ ts) zero t u h = (h, u.1)
-monos_set P (s ∷ ts) (suc i) t u h = (u.0, monos_set P ts i t u.1 h)
+monos_each : {M : Type 0} (P : M → Type 0) (ts : List (Term M)) → ((i : ℕ) → i < length ts → (x : Term M) → P (get_or ts i x).mono) → Monos P ts
+monos_each P [] h = tt
+monos_each P (t ∷ ts) h = (h 0 (omega arith) t, monos_each P ts (λ i l x. h (suc i) (omega arith) x))
 
-pub monos_replicate : {M : Type 0} (P : M → Type 0) (n : ℕ) (t : Term M) → P t.mono → Monos P (replicate n t)
-monos_replicate P zero t h = tt
-monos_replicate P (suc n) t h = (h, monos_replicate P n t h)
+-- terms that are P, and then blank ones
+pub monos_filled : {M : Type 0} (P : M → Type 0) (n : ℕ) (ts : List (Term M)) (blank : Term M) → P blank.mono → ((i : ℕ) → i < n → (x : Term M) → P (get_or ts i x).mono)
+    → ((i : ℕ) → i < length ts → n ≤ i → (x : Term M) → get_or ts i x ≡ blank) → Monos P ts
+monos_filled {M} P n ts blank b made rest =
+    monos_each P ts (λ i l x. ⊎_elim (λ u. made i u x) (λ u. subst (λ (t : Term M). P t.mono) (sym (rest i l u x)) b) (lt_or_le i n))
+
+-- a one bit moved up by less than 16 places
+pub one_bit : (i : ℕ) → i < 16 → 1 * 2 ^ i % 65536 ≡ 2 ^ i
+one_bit i h = ap (λ (x : ℕ). x % 65536) (one-mul (2 ^ i)) ∙ mod-eq_of_lt (pow-lt {i = i} {j = 16} h)
 
 zero_leb : (x : ℕ) → leb 0 x ≡ true
 zero_leb x = le-leb 0 x (omega arith)
@@ -106,46 +112,53 @@ chosen_same held f g places e i (suc n) h =
     let rest = chosen_same held f g places e (suc i) n (omega arith) in
     ap₂ (λ x y. cond (held i) (x ∷ y) y) (e i (omega arith)) rest
 
+-- the sums of the places of n words, where place p has the terms f p
+module _ {M : Type 0} (m : FieldData) (l : FieldLaws m) (n : ℕ) (f : ℕ → ℕ → Term M) (sums : List (Term M)) (h : n ≤ 3) (count : length sums ≡ 192)
+    (terms : (t : ℕ) → t < n * m.width * m.width → (x : Term M) → get_or sums t x ≡ f (t / m.width) (t % m.width)) where
+  long : n * m.width * m.width ≤ length sums
+  long = let a = few_terms n m.width h l.wide in omega (arith, count)
+
+  here : (p j : ℕ) → p < n * m.width → j < m.width → (x : Term M) → get_or sums (p * m.width + j) x ≡ f p j
+  here p j u v x = terms (p * m.width + j) (digits_lt u v) x ∙ ap₂ f (digits_div p v) (digits_mod p v)
+
+  -- the same factors of each source monomial, of which `held` says which places it holds
+  module _ {S : Type 0} (held : ℕ → S → ℕ → Bool) where
+    factors_same : Path (S → List (List (Term M))) (λ s. chosen (held m.width s) (block m.width sums) 0 (n * m.width)) (λ s. chosen (held m.width s) (λ p. listed (f p) m.width) 0 (n * m.width))
+    factors_same = λ i s.
+        chosen_same (held m.width s) (block m.width sums) (λ p. listed (f p) m.width) (n * m.width) (block_is m.width (n * m.width) f sums long here) 0 (n * m.width) (omega arith) i
+
+    answered : (k j : KindModel M) (w cap room : ℕ) (source : List (Term S)) (rows : List (Term M)) (r : Result ℕ FullTable) → k ≡ j → w ≡ m.width
+        → Answered k (product m) cap room (λ s. chosen (held w s) (block w sums) 0 (n * w)) source rows r
+        → Answered j (product m) cap room (λ s. chosen (held m.width s) (λ p. listed (f p) m.width) 0 (n * m.width)) source rows r
+    answered k j w cap room source rows r ek ew a =
+        subst (λ g. Answered j (product m) cap room g source rows r) factors_same
+        (subst₂ (λ (x : KindModel M) (v : ℕ). Answered x (product m) cap room (λ s. chosen (held v s) (block v sums) 0 (n * v)) source rows r) ek ew a)
+
 -- an answer by the sums is one by the factors of the bits
 module _ (m : FieldData) (l : FieldLaws m) (n : ℕ) (sums : List (Term (List ℕ))) (h : n ≤ 3) (b : BitSums m n sums) where
+  abbrev place_bits : ℕ → ℕ → Term (List ℕ)
+  place_bits p j = bit_term m (p / m.width) (b.dual (p % m.width)) j
+
   pub whole : n * m.width * m.width ≤ length sums
-  whole = let f = few_terms n m.width h l.wide in omega (arith, b.count)
+  whole = long m l n place_bits sums h b.count b.terms
 
   pub bit_here : (p j : ℕ) → p < n * m.width → j < m.width → (x : Term (List ℕ)) → get_or sums (p * m.width + j) x ≡ bit_term m (p / m.width) (b.dual (p % m.width)) j
-  bit_here p j u v x =
-      b.terms (p * m.width + j) (digits_lt u v) x
-      ∙ ap₂ (λ a c. bit_term m (a / m.width) (b.dual (a % m.width)) c) (digits_div p v) (digits_mod p v)
-
-  factors_same : Path (NetSet → List (List (Term (List ℕ)))) (λ s. chosen (holds s) (block m.width sums) 0 (n * m.width)) (bit_factors m n b.dual)
-  factors_same = λ i s.
-      chosen_same (holds s) (block m.width sums) (λ p. bit_sum m (p / m.width) (b.dual (p % m.width)) m.width) (n * m.width)
-      (block_is m.width (n * m.width) (λ p. bit_term m (p / m.width) (b.dual (p % m.width))) sums whole bit_here) 0 (n * m.width) (omega arith) i
+  bit_here = here m l n place_bits sums h b.count b.terms
 
   pub answered_by : (k : KindModel (List ℕ)) (w cap count : ℕ) (bits : List (Term NetSet)) (rows : List (Term (List ℕ))) (r : Result ℕ FullTable) → k ≡ card_kind m n → w ≡ m.width
       → Answered k (product m) cap count (λ s. chosen (holds s) (block w sums) 0 (n * w)) bits rows r
       → Answered (card_kind m n) (product m) cap count (bit_factors m n b.dual) bits rows r
-  answered_by k w cap count bits rows r ek ew a =
-      subst (λ f. Answered (card_kind m n) (product m) cap count f bits rows r) factors_same
-      (subst₂ (λ (x : KindModel (List ℕ)) (v : ℕ). Answered x (product m) cap count (λ s. chosen (holds s) (block v sums) 0 (n * v)) bits rows r) ek ew a)
+  answered_by k = answered m l n place_bits sums h b.count b.terms (λ _. holds) k (card_kind m n)
 
 -- the same for the sums of the words' powers
 module _ (m : FieldData) (l : FieldLaws m) (n : ℕ) (sums : List (Term NetSet)) (h : n ≤ 3) (b : WordSums m n sums) where
+  abbrev place_words : ℕ → ℕ → Term NetSet
+  place_words p i = word_term m (p / m.width) (p % m.width) i
+
   pub words_whole : n * m.width * m.width ≤ length sums
-  words_whole = let f = few_terms n m.width h l.wide in omega (arith, b.count)
-
-  word_here : (p j : ℕ) → p < n * m.width → j < m.width → (x : Term NetSet) → get_or sums (p * m.width + j) x ≡ word_term m (p / m.width) (p % m.width) j
-  word_here p j u v x =
-      b.terms (p * m.width + j) (digits_lt u v) x
-      ∙ ap₂ (λ a c. word_term m (a / m.width) (a % m.width) c) (digits_div p v) (digits_mod p v)
-
-  words_same : Path (List ℕ → List (List (Term NetSet))) (λ r. chosen (row_held m.width r) (block m.width sums) 0 (n * m.width)) (word_factors m n)
-  words_same = λ i r.
-      chosen_same (row_held m.width r) (block m.width sums) (λ p. word_sum m (p / m.width) (p % m.width) m.width) (n * m.width)
-      (block_is m.width (n * m.width) (λ p. word_term m (p / m.width) (p % m.width)) sums words_whole word_here) 0 (n * m.width) (omega arith) i
+  words_whole = long m l n place_words sums h b.count b.terms
 
   pub bits_answered_by : (w cap count : ℕ) (card : List (Term (List ℕ))) (rows : List (Term NetSet)) (r : Result ℕ FullTable) → w ≡ m.width
       → Answered net_model (product m) cap count (λ s. chosen (row_held w s) (block w sums) 0 (n * w)) card rows r
       → Answered net_model (product m) cap count (word_factors m n) card rows r
-  bits_answered_by w cap count card rows r ew a =
-      subst (λ f. Answered net_model (product m) cap count f card rows r) words_same
-      (subst (λ (v : ℕ). Answered net_model (product m) cap count (λ s. chosen (row_held v s) (block v sums) 0 (n * v)) card rows r) ew a)
+  bits_answered_by w cap count card rows r = answered m l n place_words sums h b.count b.terms row_held net_model net_model w cap count card rows r refl

@@ -16,7 +16,7 @@ use Rattle.terms.specs.declared.Term.{Term}
 use Rattle.terms.specs.declared.nets.NetSet.{NetSet}
 use Rattle.terms.specs.BothKinds.{exp_laws}
 use Rattle.cards.specs.Nested.{Finishes}
-use Rattle.cards.specs.Shapes.{counts, bump, counted, rows, all_rows, EachFits, Shaped, ShapesFit}
+use Rattle.cards.specs.Shapes.{bump, counted, rows, all_rows, EachFits, Shaped, ShapesFit}
 use Rattle.cards.specs.Sums.{bit_term, bit_sum, card_kind}
 use Rattle.cards.specs.Working.{bit_factors}
 use Rattle.cards.specs.declared.shapes.Shape.{Shape}
@@ -121,22 +121,22 @@ module _ (m : FieldData) (l : FieldLaws m) (n : ℕ) (few : n ≤ 3) (d : ℕ �
   -- the rows of all shapes
   every_reached : List Shape → List (List ℕ)
   every_reached [] = []
-  every_reached (x ∷ xs) = all_reached w q wp qp (counts x) ++ every_reached xs
+  every_reached (x ∷ xs) = all_reached w q wp qp x.counts ++ every_reached xs
 
   every_length : (xs : List Shape) → length (every_reached xs) ≡ all_rows w q xs
   unfolding every_reached
   every_length [] = refl
-  every_length (x ∷ xs) = length-append (all_reached w q wp qp (counts x)) (every_reached xs) ∙ ap₂ ◌+◌ (reached_length w q wp qp (counts x)) (every_length xs)
+  every_length (x ∷ xs) = length-append (all_reached w q wp qp x.counts) (every_reached xs) ∙ ap₂ ◌+◌ (reached_length w q wp qp x.counts) (every_length xs)
 
-  every_mem : (xs : List Shape) (x : Shape) (r : List ℕ) → Mem x xs → Mem r (all_reached w q wp qp (counts x)) → Mem r (every_reached xs)
+  every_mem : (xs : List Shape) (x : Shape) (r : List ℕ) → Mem x xs → Mem r (all_reached w q wp qp x.counts) → Mem r (every_reached xs)
   unfolding every_reached
   every_mem [] x r h i = absurd h
-  every_mem (y ∷ xs) x r (inl e) i = mem_left r (all_reached w q wp qp (counts y)) (every_reached xs) (subst (λ (z : Shape). Mem r (all_reached w q wp qp (counts z))) e i)
-  every_mem (y ∷ xs) x r (inr h) i = mem_right r (all_reached w q wp qp (counts y)) (every_reached xs) (every_mem xs x r h i)
+  every_mem (y ∷ xs) x r (inl e) i = mem_left r (all_reached w q wp qp y.counts) (every_reached xs) (subst (λ (z : Shape). Mem r (all_reached w q wp qp z.counts)) e i)
+  every_mem (y ∷ xs) x r (inr h) i = mem_right r (all_reached w q wp qp y.counts) (every_reached xs) (every_mem xs x r h i)
 
-  each_at : (cap : ℕ) (xs : List Shape) (x : Shape) → EachFits w q cap xs → Mem x xs → rows w q (counts x) ≤ cap
+  each_at : (cap : ℕ) (xs : List Shape) (x : Shape) → EachFits w q cap xs → Mem x xs → rows w q x.counts ≤ cap
   each_at cap [] x u h = absurd h
-  each_at cap (y ∷ xs) x u (inl e) = subst (λ (z : Shape). rows w q (counts z) ≤ cap) (sym e) u.0
+  each_at cap (y ∷ xs) x u (inl e) = subst (λ (z : Shape). rows w q z.counts ≤ cap) (sym e) u.0
   each_at cap (y ∷ xs) x u (inr h) = each_at cap xs x u.1 h
 
   converting_fits : (cap count : ℕ) (xs : List Shape) → EachFits w q cap xs → all_rows w q xs ≤ count → (bits : List (Term NetSet)) → Monos (λ s. Shaped w (n * w) xs (holds s)) bits
@@ -146,7 +146,7 @@ module _ (m : FieldData) (l : FieldLaws m) (n : ℕ) (few : n ≤ 3) (d : ℕ �
       let held = holds b.mono in
       let ss = counted w held 0 (n * w) (0 ∷ (0 ∷ (0 ∷ []))) in
       let x = u.0.0 in
-      let is : ss ≡ counts x = u.0.2 in
+      let is : ss ≡ x.counts = u.0.2 in
       let fits : rows w q ss ≤ cap = subst (λ (z : List ℕ). rows w q z ≤ cap) (sym is) (each_at cap xs x each u.0.1) in
       let e = expanding_fits (product m) held cap b.code fits in
       let R = every_reached xs in

@@ -7,10 +7,6 @@ use Rattle.terms.specs.declared.Term.{Term}
 use Rattle.terms.specs.declared.nets.NetSet.{NetSet}
 use Rattle.cards.specs.declared.shapes.Shape.{Shape}
 
--- the numbers of bits, word by word
-abbrev pub counts : Shape → List ℕ
-counts x = x.first ∷ (x.second ∷ (x.third ∷ []))
-
 -- one more bit of word w
 abbrev pub bump : ℕ → List ℕ → List ℕ
 bump w [] = []
@@ -35,16 +31,16 @@ rows k q (s ∷ ss) = exponents k q s * rows k q ss
 -- as many rows have the products of all these shapes
 abbrev pub all_rows : ℕ → ℕ → List Shape → ℕ
 all_rows k q [] = 0
-all_rows k q (x ∷ xs) = rows k q (counts x) + all_rows k q xs
+all_rows k q (x ∷ xs) = rows k q x.counts + all_rows k q xs
 
 -- each shape has at most `cap` rows
 abbrev pub EachFits : ℕ → ℕ → ℕ → List Shape → Type 0
 EachFits k q cap [] = Unit {0}
-EachFits k q cap (x ∷ xs) = (rows k q (counts x) ≤ cap) × EachFits k q cap xs
+EachFits k q cap (x ∷ xs) = (rows k q x.counts ≤ cap) × EachFits k q cap xs
 
 -- the set, of which `held` says which nets it holds, has one of these shapes
 abbrev pub Shaped : ℕ → ℕ → List Shape → (ℕ → Bool) → Type 0
-Shaped k places xs held = (x : Shape) × Mem x xs × (counted k held 0 places (0 ∷ (0 ∷ (0 ∷ []))) ≡ counts x)
+Shaped k places xs held = (x : Shape) × Mem x xs × (counted k held 0 places (0 ∷ (0 ∷ (0 ∷ []))) ≡ x.counts)
 
 -- the sets have these shapes alone, each shape has at most `cap` rows, and all together have at most `count`
 pub record ShapesFit (k q places cap count : ℕ) (bits : List (Term NetSet)) : Type 0 where

@@ -27,6 +27,10 @@ bit_sum m w δ n = listed (bit_term m w δ) n
 abbrev pub sums_term : FieldData → (ℕ → ℕ) → ℕ → Term (List ℕ)
 sums_term m d t = bit_term m (t / m.width / m.width) (d (t / m.width % m.width)) (t % m.width)
 
+-- the code x to the powers 1, 2, 4, …
+abbrev pub Squares : FieldData → ℕ → List ℕ → Type 0
+Squares m x row = (j : ℕ) → j < 8 → slice_index row j ≡ power m x (2 ^ j)
+
 -- in row i, the dual of bit i to the powers 1, 2, 4, …
 pub record DualSquares (m : FieldData) (rows : List (List ℕ)) : Type 0 where
   pub dual : ℕ → ℕ

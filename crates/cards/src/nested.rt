@@ -172,8 +172,7 @@ fn certain<F: Field>(field: &F, n: usize, bits: &[Term<NetSet>], cap: usize, cou
     if rows_suffice(order, n, cap, count) {
         return true;
     }
-    let width = field.width() as usize;
-    shapes_fit(bits, width, order as usize, n * width, cap, count)
+    shapes_fit(field, n, bits, cap, count)
 }
 
 // Makes `card` hold the card of a bit form in `n` words, where it is sure that the working with product tables of `cap` rows goes to its end,

@@ -1,27 +1,86 @@
 // The sums that stand for the bits of the input words.
-ghost use Rattle.std.specs.Prelude.{◌≡◌, ℕ, ◌*◌, ◌^◌, ◌<◌, ◌≤◌, true, List, length, slice_index};
+ghost use Rattle.std.specs.Prelude.{◌≡◌, ℕ, ◌*◌, ◌/◌, ◌%◌, ◌^◌, ◌<◌, ◌≤◌, true, List, [], length, slice_index, slice_index_or};
 ghost use Rattle.algebra.specs.Field.{size};
 ghost use Rattle.algebra.specs.Codes.{power};
 ghost use Rattle.algebra.specs.Ops.{at_row};
-ghost use Rattle.cards.specs.Sums.{DualSquares, BitSums, single_net, BitSquares, WordSums};
+ghost use Rattle.terms.specs.Terms.{term};
+ghost use Rattle.terms.specs.declared.Term.{Term};
+ghost use Rattle.cards.specs.Sums.{Squares, DualSquares, BitSums, single_net, BitSquares, WordSums};
 
 use field::Field;
 use field::dual::duals;
+use std::array;
 use terms::nets::{NetSet, Nets};
 use terms::{Kind, Term};
 
 // x, x^2, x^4, … x^128: each is the square of the one before it.
 fn squares<F: Field>(field: &F, x: u16) -> [u16; 8]
-    requires { x < size (F.model field.now) }
-    ensures { (j : ℕ) → j < 8 → slice_index result j ≡ power (F.model field.now) x (2 ^ j) }
+    ensures { x < size (F.model field.now) → Squares (F.model field.now) x result }
 {
     let mut row = [0; 8];
     let mut y = x;
-    for j in 0..8usize {
-        row[j] = y;
+    for square in &mut row {
+        *square = y;
         y = field.mul(y, y);
     }
     row
+}
+
+// Row i: code i, and its squares.
+fn rows_of_squares<F: Field>(field: &F, codes: [u16; 8]) -> [[u16; 8]; 8]
+    ensures { (i : ℕ) → i < 8 → slice_index codes i < size (F.model field.now) → Squares (F.model field.now) (slice_index codes i) (slice_index_or result i []) }
+{
+    codes.map(
+        |x| -> [u16; 8]
+            ensures { x < size (F.model field.entry.now) → Squares (F.model field.entry.now) x result }
+        { squares(field, x) },
+    )
+}
+
+// Row i: the dual of bit i, and its squares.
+fn dual_squares<F: Field>(field: &F) -> [[u16; 8]; 8]
+    ensures { DualSquares (F.model field.now) result }
+{
+    rows_of_squares(field, duals(field))
+}
+
+// Row i: the code 2^i, and its squares.
+fn bit_squares<F: Field>(field: &F) -> [[u16; 8]; 8]
+    ensures { BitSquares (F.model field.now) result }
+{
+    rows_of_squares(field, array::from_fn(|i| 1 << i))
+}
+
+// `places` sums of `width` terms each, in the places' order: `make` makes each from its place and its number in the sum. Then zero terms.
+fn sums_by<M: Copy, F: Fn(usize, usize) -> Term<M>>(
+    places: usize,
+    width: usize,
+    unit: M,
+    make: F,
+) -> [Term<M>; 192]
+    requires some { 0 < width }
+    requires callable { (p j : ℕ) → p < places → j < width → F.pre make p j }
+    ensures made { (t : ℕ) → t < 192 → t < places * width → (x : Term M) → F.post make (t / width) (t % width) (slice_index_or result t x) }
+    ensures rest { (t : ℕ) → t < 192 → places * width ≤ t → (x : Term M) → slice_index_or result t x ≡ term 0 unit }
+{
+    array::from_fn(
+        |t| -> Term<M>
+            requires some { 0 < width }
+            requires callable { t / width < places → F.pre make (t / width) (t % width) }
+            ensures made { t / width < places → F.post make (t / width) (t % width) result }
+            ensures rest { places ≤ t / width → result ≡ term 0 unit }
+        {
+            let place = t / width;
+            if place < places {
+                make(place, t % width)
+            } else {
+                Term {
+                    code: 0,
+                    mono: unit,
+                }
+            }
+        },
+    )
 }
 
 // The exponent row with `e` at word `w`.
@@ -34,18 +93,6 @@ fn at_word(w: usize, e: u16) -> [u16; 3]
     row
 }
 
-// Row i: the dual of bit i, and its squares.
-fn dual_squares<F: Field>(field: &F) -> [[u16; 8]; 8]
-    ensures { DualSquares (F.model field.now) result }
-{
-    let ds = duals(field);
-    let mut rows = [[0; 8]; 8];
-    for i in 0..field.width() as usize {
-        rows[i] = squares(field, ds[i]);
-    }
-    rows
-}
-
 // The sums of the bits of `n` words: k terms for each place, in the places' order.
 pub(crate) fn bit_sums<F: Field>(field: &F, n: usize) -> [Term<[u16; 3]>; 192]
     requires { n ≤ 3 }
@@ -53,30 +100,15 @@ pub(crate) fn bit_sums<F: Field>(field: &F, n: usize) -> [Term<[u16; 3]>; 192]
 {
     let k = field.width() as usize;
     let powers = dual_squares(field);
-    let mut sums = [Term {
-        code: 0,
-        mono: [0; 3],
-    }; 192];
-    for t in 0..n * k * k {
-        let place = t / k;
-        let j = t % k;
-        sums[t] = Term {
+    sums_by(
+        n * k,
+        k,
+        [0; 3],
+        |place, j| Term {
             code: powers[place % k][j],
             mono: at_word(place / k, 1 << j),
-        };
-    }
-    sums
-}
-
-// Row i: the code 2^i, and its squares.
-fn bit_squares<F: Field>(field: &F) -> [[u16; 8]; 8]
-    ensures { BitSquares (F.model field.now) result }
-{
-    let mut rows = [[0; 8]; 8];
-    for i in 0..field.width() as usize {
-        rows[i] = squares(field, 1 << i);
-    }
-    rows
+        },
+    )
 }
 
 // The set of one net.
@@ -94,17 +126,13 @@ pub(crate) fn word_sums<F: Field>(field: &F, n: usize) -> [Term<NetSet>; 192]
 {
     let k = field.width() as usize;
     let powers = bit_squares(field);
-    let mut sums = [Term {
-        code: 0,
-        mono: Nets.unit(),
-    }; 192];
-    for t in 0..n * k * k {
-        let place = t / k;
-        let i = t % k;
-        sums[t] = Term {
+    sums_by(
+        n * k,
+        k,
+        Nets.unit(),
+        |place, i| Term {
             code: powers[i][place % k],
             mono: one_net(place / k * k + i),
-        };
-    }
-    sums
+        },
+    )
 }

@@ -1,5 +1,4 @@
-use Rattle.std.proofs.Common.{ℕ, ◌*◌, ◌^◌, ◌<◌, ◌≤◌, sym, subst, subst₂, mul-le-mul_right, arith, pow_mono}
-use Rattle.cards.specs.Shapes.{ShapesFit}
+use Rattle.std.proofs.Common.{ℕ, ◌^◌, ◌≤◌, sym, subst, pow_mono}
 use Rattle.cards.proofs.CardLaw.{enough}
 use Rattle.cards.proofs.Fitting.{shapes_finish}
 use Rattle.cards.proofs.nested.certain.Goals as goal
@@ -19,20 +18,6 @@ returns-then-rows_suffice g c = λ _ d duals.
     (subst (λ (q : ℕ). q ^ c.args.n ≤ c.args.count) e (s.outcome tt)) c.args.bits.now in
     (x.0, x.1)
 
-pub shapes_fit-requires : goal.shapes_fit-requires
-shapes_fit-requires g c =
-    let l = g.met.F.Field.holds c.args.field.now in
-    let e = sym c.width-width.ensures in
-    record {
-      some = subst (λ (w : ℕ). 0 < w) e (let a = l.narrow in omega (arith, a));
-      narrow = subst (λ (w : ℕ). w ≤ 8) e l.wide;
-      small = subst (λ (q : ℕ). q ≤ 256) (sym c.order-order.ensures) (pow_mono l.wide);
-      few = mul-le-mul_right c.width-width.result c.requires;
-    }
-
 pub returns : goal.returns
 returns g c = λ h.
-    let m = g.F.Field.model c.args.field.now in
-    let l = g.met.F.Field.holds c.args.field.now in
-    shapes_finish m l c.args.n c.requires c.args.cap c.args.count c.args.bits.now
-    (subst₂ (λ (w q : ℕ). ShapesFit w q (c.args.n * w) c.args.cap c.args.count c.args.bits.now) c.width-width.ensures c.order-order.ensures (c.shapes_fit.ensures h))
+    shapes_finish (g.F.Field.model c.args.field.now) (g.met.F.Field.holds c.args.field.now) c.args.n c.requires c.args.cap c.args.count c.args.bits.now (c.shapes_fit.ensures h)

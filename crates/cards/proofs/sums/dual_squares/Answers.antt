@@ -1,10 +1,11 @@
-use Rattle.std.proofs.Common.{get_or, arith}
+use Rattle.std.proofs.Common.{slice_index, arith}
 use Rattle.cards.proofs.sums.dual_squares.Goals as goal
 
 pub returns : goal.returns
 returns g c =
+    let l = g.met.F.Field.holds c.args.field.now in
     record {
-      dual = λ i. get_or c.duals-ds.result i 0;
-      duals = c.duals-ds.ensures.bits;
-      powers = λ i j h k. c.loop-i.invariant.1 i (omega (arith, c.width-i-end.ensures, c.loop-i-test.false)) j k;
+      dual = slice_index c.duals.result;
+      duals = c.duals.ensures.bits;
+      powers = λ i j h k. c.rows_of_squares.ensures i (omega (arith, l.wide)) (c.duals.ensures.bits i h).code j k;
     }
