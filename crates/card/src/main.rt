@@ -5,7 +5,7 @@
 use field::Field;
 use gates::bit_form;
 use job::answer::answer;
-use job::open::open;
+use job::open::{Work, open};
 use job::parts::LIMIT;
 use std::env;
 use std::io::Read;
@@ -16,14 +16,12 @@ use terms::{Kind, Term};
 const ROWS: usize = 512;
 
 // Says what opening the job and working it into bits did.
-fn tell_steps(rt: &HostRuntime, job: &[u8]) -> anyhow::Result<()> {
-    let Ok(work) = open(job) else {
-        return Ok(());
-    };
-    let words = work.netlist.words();
-    let width = work.field.width();
-    let polynomial = work.field.modulus();
-    let gates = work.netlist.nets().saturating_sub(work.netlist.inputs());
+fn tell_steps(rt: &HostRuntime, work: &Work) -> anyhow::Result<()> {
+    let Work { field, netlist } = work;
+    let words = netlist.words();
+    let width = field.width();
+    let polynomial = field.modulus();
+    let gates = netlist.nets() - netlist.inputs();
     eprintln!(rt;
         "read: {words} words of {width} bits, {gates} gates, field polynomial {polynomial}"
     )?;
@@ -31,7 +29,7 @@ fn tell_steps(rt: &HostRuntime, job: &[u8]) -> anyhow::Result<()> {
         code: 0,
         mono: Nets.unit(),
     }; ROWS];
-    if let Ok(terms) = bit_form(&work.netlist, &mut rows) {
+    if let Ok(terms) = bit_form(netlist, &mut rows) {
         eprintln!(rt; "gates to bits: {terms} bit terms")?;
     }
     Ok(())
@@ -39,18 +37,18 @@ fn tell_steps(rt: &HostRuntime, job: &[u8]) -> anyhow::Result<()> {
 
 // Whether the first argument is `--steps`.
 fn wants_steps(rt: &HostRuntime) -> anyhow::Result<bool> {
-    for word in env::args(rt)?.skip(1).take(1) {
-        return Ok(word.as_str() == "--steps");
-    }
-    Ok(false)
+    let word = env::args(rt)?.nth(1);
+    Ok(word.is_some_and(|w| w.as_str() == "--steps"))
 }
 
 fn main(rt: HostRuntime) -> anyhow::Result<()> {
-    let mut bytes = Vec::new(rt.alloc());
-    let _ = rt.stdin().take(LIMIT as u64 + 1).read_to_end(&mut bytes)?;
-    if wants_steps(&rt)? {
-        tell_steps(&rt, bytes.as_slice())?;
+    let mut job = Vec::new(rt.alloc());
+    rt.stdin().take(LIMIT as u64 + 1).read_to_end(&mut job)?;
+    if wants_steps(&rt)?
+        && let Ok(work) = open(&job)
+    {
+        tell_steps(&rt, &work)?;
     }
-    rt.println(answer(bytes.as_slice()))?;
+    rt.println(answer(&job))?;
     Ok(())
 }

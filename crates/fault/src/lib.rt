@@ -4,6 +4,7 @@
 ghost use Rattle.std.specs.Prelude.{◌≡◌, Some};
 ghost use Rattle.fault.specs.Faults.{number, part, place, part_name, refusal_line};
 
+use std::error::Error;
 use std::fmt;
 
 // A refusal. Those of the reader carry the line that they fall at, counted from 1.
@@ -172,3 +173,5 @@ impl fmt::Display for Fault {
         write!(f, "refused {number} {part} {place}")
     }
 }
+
+impl Error for Fault {}

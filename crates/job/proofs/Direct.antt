@@ -1,69 +1,54 @@
 -- From what the workings answer, with no shelf, to what is answered to the job. Assumes nothing.
-use Rattle.std.proofs.Common.{◌≡◌, ℕ, ◌-◌, ◌≤◌, List, length, take, drop, Ok, Err, sym, ap, ◌∙◌, subst, subst₂, arith}
-use lib.Seq.{take-append-le}
-use Rattle.std.proofs.lemmas.List.{take_all}
-use Rattle.algebra.specs.Field.{FieldData, size}
+use Rattle.std.proofs.Common.{◌≡◌, ℕ, List, take, Ok, Err, sym, ap, ◌∙◌, subst, subst₂}
+use Rattle.std.proofs.lemmas.List.{take_at}
+use Rattle.algebra.specs.Field.{FieldData}
 use Rattle.algebra.specs.Shift.{shift_data}
 use Rattle.fault.specs.declared.Fault.{Fault}
-use Rattle.terms.specs.Nets.{net_model}
-use Rattle.terms.specs.Exps.{tops_for}
-use Rattle.terms.specs.Terms.{padded}
-use Rattle.terms.specs.Values.{value_under, bit_at}
-use Rattle.terms.specs.BothKinds.{inside_length}
 use Rattle.terms.specs.declared.Term.{Term}
 use Rattle.terms.specs.declared.nets.NetSet.{NetSet}
-use Rattle.netlist.specs.Circuits.{Circuit, WellFormed}
-use Rattle.netlist.specs.Meaning.{output_at}
-use Rattle.gates.specs.Answers.{Found}
-use Rattle.gates.specs.Forms.{BitForm}
-use Rattle.cards.specs.Law.{IsInput, BitTerms, CardOf}
+use Rattle.netlist.specs.Circuits.{Circuit}
+use Rattle.gates.specs.Answers as gates
 use Rattle.cards.specs.Working.{word_count, CardAnswered}
-use Rattle.ledger.proofs.Forms.{form_outputs}
+use Rattle.ledger.specs.Filings.{text, IsForm}
+use Rattle.ledger.proofs.Forms.{text_form, form_card}
 use Rattle.shelf.proofs.Filing.{counted}
-use Rattle.job.specs.Answers.{Carded, CardOfCircuit, Refused, words}
+use Rattle.job.specs.Answers.{Carded, Refused, words}
 use Rattle.job.specs.Jobs.{Opened}
+use Rattle.job.proofs.Opening.{field_laws}
 
--- the terms in the first rows of a table
-pub front : (rows us : List (Term NetSet)) (n : ℕ) → rows ≡ padded net_model 512 us → n ≡ length us → take (n - 0) (drop 0 rows) ≡ us
-front rows us n e h =
-    let z : n - 0 ≡ length us = omega arith in
-    let l : length us ≤ length us = omega arith in
-    ap (λ (i : ℕ). take i rows) z ∙ ap (take (length us)) e ∙ rw take-append-le (take_all (length us) us l)
+module _ (job : List ℕ) (p k : ℕ) (c : Circuit) (opened : Opened job p k c.words c) (count : ℕ) (table : List (Term NetSet)) (formed : gates.Answered c 512 (Ok count) table) where
+  abbrev m : FieldData
+  m = shift_data k p
 
--- the card of a circuit's bit form is the circuit's
-card_of_circuit : (m : FieldData) (c : Circuit) (us : List (Term NetSet)) (ts : List (Term (List ℕ))) → c.width ≡ m.width → WellFormed c → BitForm c us
-    → CardOf m c.words us ts → CardOfCircuit m c.words c ts
-card_of_circuit m c us ts e w b card = record {
-  polynomial = card.polynomial;
-  values = λ xs i. card.values xs i ∙ outputs xs i;
-  only = λ other o v. card.only other o (λ xs i. v xs i ∙ sym (outputs xs i));
-}
-  where
-    outputs : (xs : List ℕ) → IsInput m c.words xs → value_under (bit_at m.width xs) us ≡ output_at c (take c.words xs)
-    outputs xs i = form_outputs c us m.width xs e w b (inside_length (tops_for (size m) c.words) xs i)
+  abbrev us : List (Term NetSet)
+  us = formed.0
 
-module _ (job : List ℕ) (p k : ℕ) (c : Circuit) (opened : Opened job p k c.words c) (bs us : List (Term NetSet)) (found : Found c 512 us) (same : bs ≡ us) where
-  sized : word_count c.words ≡ c.words
-  sized = let r = opened.accepted.formed.range in counted c.words r.some_word r.few_words
+  -- the terms in the first rows of the table
+  front : take count table ≡ us
+  front = ap (take count) formed.3 ∙ take_at us _ count (sym formed.2)
 
-  pub made : (rows : List (Term (List ℕ))) (t : ℕ) → CardAnswered (shift_data k p) (word_count c.words) 512 512 bs rows (Ok t) → Carded job p k c.words (take t rows)
-  made rows t a =
-      let b = subst₂ (λ (n : ℕ) (xs : List (Term NetSet)). CardAnswered (shift_data k p) n 512 512 xs rows (Ok t)) sized same a in
-      let width : c.width ≡ k = opened.accepted.width in
-      let terms : BitTerms (shift_data k p) c.words us =
-      subst (λ (j : ℕ). BitTerms (shift_data j p) c.words us) width (record { codes = found.form.codes; within = found.form.no_gate }) in
-      record {
-        circuit = c;
-        opened = opened;
-        card = card_of_circuit (shift_data k p) c us (take t rows) width opened.accepted.formed found.form (b.made terms);
-        bits = us;
-        found = found;
-        duals = b.dual;
-        right = b.duals;
-        worked = b.worked.0;
-      }
+  form : IsForm m c.words (text c) us
+  form = text_form m (field_laws opened.field) c.words opened.accepted.formed.range.few_words opened.netlist c us opened.accepted formed.1.form
 
-  pub stopped : (rows : List (Term (List ℕ))) (f : Fault) → CardAnswered (shift_data k p) (word_count c.words) 512 512 bs rows (Err f) → Refused job f
-  stopped rows f a =
-      let b = subst₂ (λ (n : ℕ) (xs : List (Term NetSet)). CardAnswered (shift_data k p) n 512 512 xs rows (Err f)) sized same a in
-      subst (Refused job) (sym b.worked.2) (words p k c.words c opened us found b.dual b.duals b.worked.0 b.worked.1)
+  module _ (n : ℕ) (e : n ≡ c.words) (rows : List (Term (List ℕ))) where
+    sized : word_count n ≡ c.words
+    sized = let r = opened.accepted.formed.range in ap word_count e ∙ counted c.words r.some_word r.few_words
+
+    pub made : (t : ℕ) → CardAnswered m (word_count n) 512 512 (take count table) rows (Ok t) → Carded job p k n (take t rows)
+    made t a =
+        let b = subst₂ (λ (i : ℕ) (xs : List (Term NetSet)). CardAnswered m i 512 512 xs rows (Ok t)) sized front a in
+        subst (λ (i : ℕ). Carded job p k i (take t rows)) (sym e) (record {
+          circuit = c;
+          opened = opened;
+          card = form_card m c.words (text c) us (take t rows) form (b.made form.bit_form.terms);
+          bits = us;
+          found = formed.1;
+          duals = b.dual;
+          right = b.duals;
+          worked = b.worked.0;
+        })
+
+    pub stopped : (f : Fault) → CardAnswered m (word_count n) 512 512 (take count table) rows (Err f) → Refused job f
+    stopped f a =
+        let b = subst₂ (λ (i : ℕ) (xs : List (Term NetSet)). CardAnswered m i 512 512 xs rows (Err f)) sized front a in
+        subst (Refused job) (sym b.worked.2) (words p k c.words c opened us formed.1 b.dual b.duals b.worked.0 b.worked.1)

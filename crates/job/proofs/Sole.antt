@@ -1,8 +1,6 @@
 -- Each job has one text. Assumes nothing.
-use Rattle.std.proofs.Common.{◌≡◌, ℕ, List, sym, ap, ◌∙◌, subst, subst₂}
-use Rattle.algebra.specs.Field.{FieldLaws}
+use Rattle.std.proofs.Common.{◌≡◌, ℕ, List, Ok, Err, Result, sym, ap, ◌∙◌, subst, subst₂}
 use Rattle.algebra.specs.Shift.{shift_data}
-use Rattle.algebra.proofs.ShiftLaws.{shift_laws}
 use Rattle.fault.specs.Faults.{refusal_line}
 use Rattle.fault.specs.declared.Fault.{Fault}
 use Rattle.terms.specs.declared.Term.{Term}
@@ -15,14 +13,14 @@ use Rattle.convert.specs.declared.FullTable.{FullTable}
 use Rattle.cards.specs.Working.{card_working, card_fault}
 use Rattle.ledger.specs.Rules.{Duals}
 use Rattle.ledger.proofs.Workings.{one_form, one_bits, not_refused, finished_stopped, stopped_is, same_working}
-use Rattle.job.specs.Answers.{CardOfCircuit, Carded, Refused, unopened, bits, words}
-use Rattle.job.specs.Jobs.{Makes, Opened}
-use Rattle.job.specs.Printed.{Printed, card, refusal}
+use Rattle.job.specs.declared.card.Card.{Card}
+use Rattle.job.specs.Answers.{CardOfCircuit, Carded, Refused, unopened, bits, words, Answered}
+use Rattle.job.specs.Cards.{terms_of}
+use Rattle.job.specs.Jobs.{Opened}
+use Rattle.job.specs.Printed.{Printed, card, refusal, shown_outcome}
 use Rattle.job.specs.Printing.{card_text}
+use Rattle.job.proofs.Opening.{field_laws}
 use Rattle.job.proofs.Once.{one_unopened, one_opened, not_unopened}
-
-laws : {p k : ℕ} → Makes p k → FieldLaws (shift_data k p)
-laws {p} {k} m = shift_laws k p m.narrow m.wide m.degree m.irreducible
 
 -- ---- the answer
 module _ (job : List ℕ) where
@@ -42,13 +40,13 @@ module _ (job : List ℕ) where
   one_table : {p k n : ℕ} {c : Circuit} {s t : FullTable} → Opened job p k n c → Overflow p k n c s → Overflow p k n c t → s ≡ t
   one_table {p} {k} {n} {c} {s} {t} x a b =
       let m = shift_data k p in
-      stopped_is s t (sym a.ends ∙ same_working m (laws x.field) n a.δ b.δ a.right b.right 512 512 a.us
+      stopped_is s t (sym a.ends ∙ same_working m (field_laws x.field) n a.δ b.δ a.right b.right 512 512 a.us
       ∙ ap (card_working m n b.δ 512 512) (one_form c 512 a.found b.found) ∙ b.ends)
 
   no_overflow : {p k n : ℕ} {ts : List (Term (List ℕ))} {t : FullTable} (x : Carded job p k n ts) → Overflow p k n x.circuit t → ⊥
   no_overflow {p} {k} {n} {ts} {t} x o =
       let m = shift_data k p in
-      finished_stopped ts t (sym x.worked ∙ same_working m (laws x.opened.field) n x.duals o.δ x.right o.right 512 512 x.bits
+      finished_stopped ts t (sym x.worked ∙ same_working m (field_laws x.opened.field) n x.duals o.δ x.right o.right 512 512 x.bits
       ∙ ap (card_working m n o.δ 512 512) (one_form x.circuit 512 x.found o.found) ∙ o.ends)
 
   one_refused : {f g : Fault} → Refused job f → Refused job g → f ≡ g
@@ -81,3 +79,8 @@ module _ (job : List ℕ) where
   one_text out other (card p k n ts x) (refusal f y) = absurd (not_both x y)
   one_text out other (refusal f x) (card p k n ts y) = absurd (not_both y x)
   one_text out other (refusal f x) (refusal g y) = ap refusal_line (one_refused y x)
+
+  -- what is shown of an answer is the text for the job
+  pub shown : (r : Result Card Fault) → Answered job r → Printed job (shown_outcome (record { 0 = r }))
+  shown (Ok c) x = card c.polynomial c.width c.words (terms_of c) x
+  shown (Err f) x = refusal f x

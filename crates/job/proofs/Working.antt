@@ -2,9 +2,8 @@
 use Rattle.std.proofs.Common.{◌≡◌, ℕ, ◌<◌, ◌≤◌, ◌⊎◌, List, [], ◌∷◌, length, take, Some, None, Ok, Err, Option, Result, sym, refl, ap, ◌∙◌, subst, inl, inr, arith}
 use Rattle.std.proofs.lemmas.List.{take_at}
 use Rattle.std.proofs.lemmas.Bool.{cases_lt}
-use Rattle.algebra.specs.Field.{FieldData, FieldLaws}
+use Rattle.algebra.specs.Field.{FieldData}
 use Rattle.algebra.specs.Shift.{shift_data}
-use Rattle.algebra.proofs.ShiftLaws.{shift_laws}
 use Rattle.fault.specs.declared.Fault.{Fault}
 use Rattle.terms.specs.Additions.{Ended, done, full}
 use Rattle.terms.specs.declared.Term.{Term}
@@ -25,14 +24,13 @@ use Rattle.ledger.specs.Ledgers as ledgers
 use Rattle.ledger.specs.Rules.{Call, filing, carding, beyond, filled, empty, file_drawer, file_reader, file_bits, card_drawer, card_full}
 use Rattle.ledger.proofs.Decided.{some_is}
 use Rattle.ledger.proofs.Forms.{text_form, one_bit_form}
+use Rattle.cards.specs.Working.{word_count}
+use Rattle.shelf.proofs.Filing.{counted}
 use Rattle.audit.specs.Faithful.{Faithful, lent}
 use Rattle.audit.specs.declared.findings.Findings.{Findings}
 use Rattle.job.specs.Answers.{Carded, Refused, unopened, bits, words}
 use Rattle.job.specs.Jobs.{Prepared, Opened}
-use Rattle.job.proofs.Opening.{unread, opened}
-
-none_some : {A : Type 0} (x : A) → ◌≡◌ {A = Option A} None (Some x) → ⊥
-none_some x e = let z : ◌≡◌ {A = ℕ} 0 1 = cc in omega arith
+use Rattle.job.proofs.Opening.{field_laws, unread, opened}
 
 module _ (m : FieldData) (n : ℕ) where
   -- a list of one call
@@ -41,10 +39,10 @@ module _ (m : FieldData) (n : ℕ) where
 
   first_fault : (f : Option Fault) (i : ℕ) (e : Fault) → Some (i, e) ≡ sooner 0 f None → f ≡ Some e
   first_fault (Some g) i e h = let q : ◌≡◌ {A = ℕ × Fault} (0, g) (i, e) = cc in ap (λ (x : ℕ × Fault). Some x.1) q
-  first_fault None i e h = absurd (none_some (i, e) (sym h))
+  first_fault None i e h = cc
 
   no_fault : (f : Option Fault) → None ≡ sooner 0 f None → f ≡ None
-  no_fault (Some g) h = absurd (none_some (0, g) h)
+  no_fault (Some g) h = cc
   no_fault None h = refl
 
   after_refused : {L L' : Ledger} {c : Call} {e : Fault} → After m n L c (Some e) L' → Due m n L c e
@@ -61,16 +59,13 @@ module _ (job netlist : List ℕ) (p k n : ℕ) (ready : Prepared job p k n netl
   abbrev m : FieldData
   m = shift_data k p
 
-  laws : FieldLaws m
-  laws = let f = ready.field in shift_laws k p f.narrow f.wide f.degree f.irreducible
-
   abbrev file : Call
   file = filing 0 netlist 512
 
   -- the netlist is refused
   unfiled : (e : Fault) → Due m n no_filings file e → Refused job e
   unfiled e (file_drawer _ _ _ (beyond h)) = absurd (omega arith)
-  unfiled e (file_drawer _ _ _ (filled f h q)) = absurd (none_some f q)
+  unfiled e (file_drawer _ _ _ (filled f h q)) = cc
   unfiled e (file_reader _ _ _ f r) = unopened (unread ready r)
   unfiled e (file_bits _ _ _ f c a r) = bits p k c.words c (opened ready a) r
 
@@ -91,7 +86,7 @@ module _ (job netlist : List ℕ) (p k n : ℕ) (ready : Prepared job p k n netl
 
     -- it is the bit form of the filing
     found_form : (us : List (Term NetSet)) → IsForm m n (text c) us → Found c 512 us
-    found_form us f = let x = found in subst (Found c 512) (one_bit_form m n (text c) x.0 us (text_form m laws n ready.few netlist c x.0 a x.1.form) f) x.1
+    found_form us f = let x = found in subst (Found c 512) (one_bit_form m n (text c) x.0 us (text_form m (field_laws ready.field) n ready.few netlist c x.0 a x.1.form) f) x.1
 
     open_job : Opened job p k n c
     open_job = subst (λ (i : ℕ). Opened job p k i c) a.words (opened ready a)
@@ -102,7 +97,7 @@ module _ (job netlist : List ℕ) (p k n : ℕ) (ready : Prepared job p k n netl
         subst (Carded job p k n) terms (record {
           circuit = c;
           opened = open_job;
-          card = record { polynomial = t.card.polynomial; values = t.card.values; only = t.card.only };
+          card = t.card;
           bits = t.form;
           found = found_form t.form t.is_form;
           duals = t.dual;
@@ -113,14 +108,14 @@ module _ (job netlist : List ℕ) (p k n : ℕ) (ready : Prepared job p k n netl
     -- a table is full on the way to words
     stopped : (L : Ledger) → L 0 ≡ Some (text c) → (e : Fault) → Due m n L (carding 0 512 512 512) e → Refused job e
     stopped L h e (card_drawer _ _ _ _ (beyond x)) = absurd (omega arith)
-    stopped L h e (card_drawer _ _ _ _ (empty x y)) = absurd (none_some (text c) (sym y ∙ h))
+    stopped L h e (card_drawer _ _ _ _ (empty x y)) = cc
     stopped L h e (card_full _ _ _ _ f s us g δ d t q) =
         let same : f ≡ text c = some_is (L 0) f (text c) s.filled h in
         words p k n c open_job us (found_form us (subst (λ (i : Filing). IsForm m n i us) same g)) δ d t q
 
-  module _ (i : ℕ) (e : i ≡ n) (xs : List ℕ) (out : Findings) (left right : List (Term (List ℕ))) (given : Faithful m i (file ∷ []) 0 15 xs (lent 512 512 512 0) out left right) where
+  module _ (i : ℕ) (e : i ≡ n) (xs : List ℕ) (out : Findings) (left right : List (Term (List ℕ))) (given : Faithful m (word_count i) (file ∷ []) 0 15 xs (lent 512 512 512 0) out left right) where
     f : Faithful m n (file ∷ []) 0 15 xs (lent 512 512 512 0) out left right
-    f = subst (λ (j : ℕ). Faithful m j (file ∷ []) 0 15 xs (lent 512 512 512 0) out left right) e given
+    f = subst (λ (j : ℕ). Faithful m j (file ∷ []) 0 15 xs (lent 512 512 512 0) out left right) (ap word_count e ∙ counted n ready.some ready.few) given
 
     pub was_refused : (at : ℕ) (fault : Fault) → out.refused ≡ Some (at, fault) → Refused job fault
     was_refused at fault h =
@@ -133,11 +128,11 @@ module _ (job netlist : List ℕ) (p k n : ℕ) (ready : Prepared job p k n netl
           let one = one_call m n f.the_ledger.led in
           after_accepted m n (subst (λ (o : Option Fault). After m n no_filings file o f.ledger) (no_fault m n one.0 (sym h ∙ one.1)) one.2)
 
-      filed : (c : Circuit) × reader.Accepted n k netlist c × (f.ledger 0 ≡ Some (text c))
+      filed : (c : Circuit) × reader.Accepted n m.width netlist c × (f.ledger 0 ≡ Some (text c))
       filed = let x = entered m n entry.1 in (x.0, x.1, ap (λ (L : Ledger). L 0) x.2)
 
-      pub was_carded : (j : ℕ) → out.left ≡ Ok j → Carded job p k n (take j left)
-      was_carded j q = made filed.0 filed.1 entry.0 j left (f.left_card (text filed.0) filed.2 j q)
+      pub was_carded : (j : ℕ) → out.left ≡ Ok j → Carded job p k i (take j left)
+      was_carded j q = subst (λ (w : ℕ). Carded job p k w (take j left)) (sym e) (made filed.0 filed.1 entry.0 j left (f.left_card (text filed.0) filed.2 j q))
 
       pub few_rows : (j : ℕ) → out.left ≡ Ok j → j ≤ 512
       few_rows j q = let t = f.left_card (text filed.0) filed.2 j q in omega (arith, t.count, t.within)

@@ -1,6 +1,5 @@
 -- What is answered to a job: its card, or why there is none. Assumes nothing.
-use Rattle.std.specs.Prelude.{◌≡◌, ℕ, ◌<◌, List, take, Ok, Err, Result}
-use Rattle.algebra.specs.Codes.{Dual}
+use Rattle.std.specs.Prelude.{◌≡◌, ℕ, List, take, Ok, Err, Result}
 use Rattle.algebra.specs.Field.{FieldData}
 use Rattle.algebra.specs.Shift.{shift_data}
 use Rattle.fault.specs.declared.Fault.{Fault}
@@ -12,25 +11,25 @@ use Rattle.gates.specs.Answers.{Found}
 use Rattle.gates.specs.Answers as gates
 use Rattle.convert.specs.Convert.{finished, stopped}
 use Rattle.convert.specs.declared.FullTable.{FullTable}
-use Rattle.cards.specs.Law.{Polynomial, IsInput, card_value}
+use Rattle.cards.specs.Law.{IsInput, card_value}
 use Rattle.cards.specs.Working.{card_working, card_fault}
+use Rattle.ledger.specs.Filings.{text, IsCard}
+use Rattle.ledger.specs.Rules as rules
 use Rattle.job.specs.declared.card.Card.{Card}
 use Rattle.job.specs.Cards.{terms_of}
 use Rattle.job.specs.Jobs.{Opened, NotOpened}
 
 -- δ i is the dual of bit i of the field
 abbrev pub Duals : FieldData → (ℕ → ℕ) → Type 0
-Duals m δ = (i : ℕ) → i < m.width → Dual m i (δ i)
+Duals m δ = rules.Duals m δ
 
 -- at every input, the value of ts is the word that the gates' Boolean tables give; an input is three numbers, the circuit's n words and then 0s
 abbrev pub HasOutputs : FieldData → ℕ → Circuit → List (Term (List ℕ)) → Type 0
 HasOutputs m n c ts = (xs : List ℕ) → IsInput m n xs → card_value m ts xs ≡ output_at c (take n xs)
 
--- ts is the card of circuit c: the one polynomial in n words that has at every input the word that the gates' Boolean tables give
-pub record CardOfCircuit (m : FieldData) (n : ℕ) (c : Circuit) (ts : List (Term (List ℕ))) : Type 0 where
-  pub polynomial : Polynomial m n ts
-  pub values : HasOutputs m n c ts
-  pub only : (other : List (Term (List ℕ))) → Polynomial m n other → HasOutputs m n c other → other ≡ ts
+-- ts is the card of circuit c: the one polynomial in n words that has at every input the word that the gates' Boolean tables give (HasOutputs)
+abbrev pub CardOfCircuit : FieldData → ℕ → Circuit → List (Term (List ℕ)) → Type 0
+CardOfCircuit m n c ts = IsCard m n (text c) ts
 
 -- ts is the card of a job, in n words of k bits over the field of p: the job is the text of a circuit, and ts is the card of that circuit;
 -- the gates' working ends in its bit form, and the working from that to words ends in ts, each table having 512 rows

@@ -1,10 +1,9 @@
 -- What the program writes for a job. Assumes nothing.
-use Rattle.std.specs.Prelude.{ℕ, List}
+use Rattle.std.specs.Prelude.{ℕ, List, Ok, Err}
 use Rattle.fault.specs.Faults.{refusal_line}
 use Rattle.fault.specs.declared.Fault.{Fault}
 use Rattle.terms.specs.declared.Term.{Term}
 use Rattle.job.specs.declared.answer.Outcome.{Outcome}
-use Rattle.job.specs.declared.answer.Outcome.TheVariants as outcome
 use Rattle.job.specs.Answers.{Carded}
 use Rattle.job.specs.Answers as answers
 use Rattle.job.specs.Cards.{shown_card}
@@ -17,5 +16,4 @@ pub data Printed (job : List ℕ) : List ℕ → Type 0 where
 
 -- what is shown of an outcome
 abbrev pub shown_outcome : Outcome → List ℕ
-shown_outcome (outcome.Card c) = shown_card c
-shown_outcome (outcome.Refused f) = refusal_line f
+shown_outcome o = elim o.0 [ Ok c ↦ shown_card c | Err f ↦ refusal_line f ]

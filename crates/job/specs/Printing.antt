@@ -5,8 +5,7 @@ use Rattle.terms.specs.declared.Term.{Term}
 
 -- numbers, each after one space
 abbrev pub spaced : List ℕ → List ℕ
-spaced [] = []
-spaced (v ∷ vs) = 32 ∷ (decimal v ++ spaced vs)
+spaced vs = flat_map (λ v. 32 ∷ decimal v) vs
 
 -- the line of a term in n words: its code, then an exponent for each word
 abbrev pub term_line : ℕ → Term (List ℕ) → List ℕ

@@ -7,10 +7,10 @@ ghost use Rattle.audit.specs.Faithful.{Faithful, lent};
 ghost use Rattle.job.specs.Answers.{Answered};
 ghost use Rattle.job.specs.Printed.{Printed, shown_outcome};
 
-use crate::card::Card;
-use crate::open::{field_of, open, words_of};
-use crate::parts::take_apart;
+use crate::card::{Card, ROWS};
+use crate::open::{open, prepare};
 use audit::{Entry, Findings, audit};
+use bounded::Bounded;
 use cards::words::to_words;
 use fault::Fault;
 use field::Field;
@@ -19,9 +19,6 @@ use gates::bit_form;
 use std::fmt;
 use terms::nets::Nets;
 use terms::{Kind, Term};
-
-// The rows of each table.
-const ROWS: usize = 512;
 
 // A row with no term.
 const ZERO: Term<[u16; 3]> = Term {
@@ -72,7 +69,7 @@ pub fn work(job: &[u8]) -> Result<Card, Fault>
     ensures { Answered job.now result }
 {
     let opened = open(job)?;
-    let words = opened.netlist.words() as usize;
+    let words = usize::from(opened.netlist.words());
     let mut bits = [Term {
         code: 0,
         mono: Nets.unit(),
@@ -84,7 +81,7 @@ pub fn work(job: &[u8]) -> Result<Card, Fault>
     let len = to_words(
         &opened.field,
         words,
-        &bits[0..count],
+        &bits[..count],
         &mut first,
         &mut second,
         &mut rows,
@@ -93,8 +90,7 @@ pub fn work(job: &[u8]) -> Result<Card, Fault>
         words,
         width: opened.field.width(),
         polynomial: opened.field.modulus(),
-        len,
-        rows,
+        rows: Bounded::front_of(rows, len),
     })
 }
 
@@ -102,39 +98,34 @@ pub fn work(job: &[u8]) -> Result<Card, Fault>
 fn work_on_shelf(job: &[u8]) -> Result<Card, Fault>
     ensures { Answered job.now result }
 {
-    let parts = take_apart(job)?;
-    let field = field_of(&parts)?;
-    let words = usize::from(words_of(parts.netlist));
+    let ready = prepare(job)?;
+    let words = usize::from(ready.words);
     let mut rows = [ZERO; ROWS];
-    let found = file_and_draw(field, words, parts.netlist, &mut rows);
+    let found = file_and_draw(ready.field, words, ready.netlist, &mut rows);
     if let Some((_, fault)) = found.refused {
         return Err(fault);
     }
     let len = found.left?;
     Ok(Card {
         words,
-        width: field.width(),
-        polynomial: field.modulus(),
-        len,
-        rows,
+        width: ready.field.width(),
+        polynomial: ready.field.modulus(),
+        rows: Bounded::front_of(rows, len),
     })
 }
 
-// What the program answers to a job.
+// What the program answers to a job: its card, or its refusal.
 #[derive(Clone, Copy)]
-pub enum Outcome {
-    Card(Card),
-    Refused(Fault),
-}
+pub struct Outcome(pub Result<Card, Fault>);
 
 // The lines of the card, or the line of the refusal; no line feed after the last.
 impl fmt::Display for Outcome {
     ghost output = { λ a. Some (shown_outcome a) };
 
     fn fmt<W: fmt::Write>(&self, f: &mut fmt::Formatter<W>) -> fmt::Result {
-        match self {
-            Outcome::Card(card) => write!(f, "{card}"),
-            Outcome::Refused(fault) => write!(f, "{fault}"),
+        match &self.0 {
+            Ok(card) => write!(f, "{card}"),
+            Err(fault) => write!(f, "{fault}"),
         }
     }
 }
@@ -144,8 +135,5 @@ pub fn answer(job: &[u8]) -> Outcome
     ensures printed { Printed job.now (shown_outcome result) }
     ensures only { (text : List ℕ) → Printed job.now text → text ≡ shown_outcome result }
 {
-    match work_on_shelf(job) {
-        Ok(card) => Outcome::Card(card),
-        Err(fault) => Outcome::Refused(fault),
-    }
+    Outcome(work_on_shelf(job))
 }

@@ -1,17 +1,17 @@
 // A card: the canonical polynomial, in the input words, that a netlist computes.
-ghost use Rattle.std.specs.Prelude.{◌≡◌, ◌≤◌, length};
-
+use bounded::Bounded;
 use terms::Term;
 
 pub mod show;
 
-// One term of a card in `words` words.
+// The most rows of a card.
+pub(crate) const ROWS: usize = 512;
+
+// One row of a card in `words` words.
 #[derive(Clone, Copy)]
 pub struct Row {
     words: usize,
-    code: u16,
-    exponents: [u16; 3],
-    ghost three: { length exponents ≡ 3 },
+    term: Term<[u16; 3]>,
 }
 
 // The first line of a card.
@@ -24,14 +24,11 @@ pub struct Header {
     degree: u32,
 }
 
-// The card of `words` words of `width` bits over the field of `polynomial`: the first `len` rows.
+// The card of `words` words of `width` bits over the field of `polynomial`.
 #[derive(Clone, Copy)]
 pub struct Card {
     pub words: usize,
     pub width: u32,
     pub polynomial: u16,
-    pub len: usize,
-    pub rows: [Term<[u16; 3]>; 512],
-    ghost few: { len ≤ 512 },
-    ghost all: { length rows ≡ 512 },
+    pub rows: Bounded<Term<[u16; 3]>, ROWS>,
 }

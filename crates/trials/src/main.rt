@@ -2,78 +2,43 @@
 // followed by a line feed. It writes each job's name, then its answer, and for a card what going there and back gave.
 #![tactic(auto)]
 
+ghost use Rattle.std.specs.Prelude.{◌<◌, length, IfSome};
+
+mod circuit;
 mod rounds;
 
 use job::answer::answer;
 use rounds::round;
-use std::io::{Read, Write};
+use std::io::Read;
 
 // The most bytes of a table.
 const MOST: u64 = 1 << 20;
 
-// The bytes up to the first line feed, and those after it.
-fn cut_line(s: &[u8]) -> Option<(&[u8], &[u8])> {
-    for (i, b) in s.iter().enumerate() {
-        if *b == b'\n' {
-            return Some((&s[0..i], &s[i + 1..]));
-        }
-    }
-    None
-}
-
-// The name in a heading, which is what stands before its last space, and the number after it.
-fn heading(line: &[u8]) -> Option<(&[u8], usize)> {
-    let mut size = 0usize;
-    let mut name = None;
-    for (i, b) in line.iter().enumerate() {
-        match b {
-            b' ' => {
-                name = Some(&line[0..i]);
-                size = 0;
-            }
-            b'0'..=b'9' => size = size
-                .saturating_mul(10)
-                .saturating_add(usize::from(*b - b'0')),
-            _ => {}
-        }
-    }
-    let Some(name) = name else {
-        return None;
-    };
-    Some((name, size))
-}
-
 struct Trial<'a> {
-    name: &'a [u8],
+    name: &'a str,
     job: &'a [u8],
     rest: &'a [u8],
 }
 
-// The first job of a table.
-fn cut_trial(s: &[u8]) -> Option<Trial<'_>> {
-    let (line, after) = cut_line(s)?;
-    let (name, size) = heading(line)?;
-    if size >= after.len() {
-        return None;
-    }
-    Some(Trial {
-        name,
-        job: &after[0..size],
-        rest: &after[size + 1..],
-    })
+// The first job of a table, and what follows it.
+fn cut_trial(table: &[u8]) -> Option<Trial<'_>>
+    ensures { IfSome result (λ t. length t.rest.now < length table.now) }
+{
+    let end = table.iter().position(|b| *b == b'\n')?;
+    let (name, size) = str::from_utf8(&table[..end]).ok()?.rsplit_once(' ')?;
+    let (job, after) = table[end + 1..].split_at_checked(size.parse().ok()?)?;
+    let (_, rest) = after.split_first()?;
+    Some(Trial { name, job, rest })
 }
 
 fn run(rt: &HostRuntime, table: &[u8]) -> anyhow::Result<()> {
     let mut left = table;
-    for _ in 0..table.len() {
-        let Some(trial) = cut_trial(left) else {
-            break;
-        };
-        let Trial { name, job, rest } = trial;
-        rt.stdout().write_all(name)?;
-        rt.println("")?;
+    while let Some(Trial { name, job, rest }) = cut_trial(left) {
+        rt.println(name)?;
         rt.println(answer(job))?;
-        round(rt, job)?;
+        if let Ok(round) = round(job) {
+            rt.println(round)?;
+        }
         left = rest;
     }
     Ok(())
@@ -81,6 +46,6 @@ fn run(rt: &HostRuntime, table: &[u8]) -> anyhow::Result<()> {
 
 fn main(rt: HostRuntime) -> anyhow::Result<()> {
     let mut table = Vec::new(rt.alloc());
-    let _ = rt.stdin().take(MOST).read_to_end(&mut table)?;
-    run(&rt, table.as_slice())
+    rt.stdin().take(MOST).read_to_end(&mut table)?;
+    run(&rt, &table)
 }

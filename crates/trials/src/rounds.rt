@@ -1,158 +1,129 @@
 // There and back: a job goes from gates to bits, to words, back to bits and to words again; and its card is held against the gates' Boolean
 // tables at every input, where an input has at most 8 bits.
+use crate::circuit::output;
 use cards::bits::to_bits;
 use cards::words::to_words;
+use fault::Fault;
 use field::Field;
 use field::shift::Shift;
 use gates::bit_form;
 use job::open::{Work, open};
 use netlist::circuit::Netlist;
-use netlist::gate::{Gate, Net};
-use terms::exps::Exps;
-use terms::nets::Nets;
+use std::fmt;
+use terms::nets::{NetSet, Nets};
 use terms::{Kind, Term};
 
 // The rows of each table.
 const ROWS: usize = 512;
 
-// The bit of a net.
-fn bit(nets: &[bool], x: Net) -> bool {
-    nets.get(usize::from(x.0)).copied().unwrap_or(false)
+// A table of bit terms, and a table of card rows, both empty.
+fn no_bits() -> [Term<NetSet>; ROWS] {
+    [Term {
+        code: 0,
+        mono: Nets.unit(),
+    }; ROWS]
 }
 
-// The bit that a gate gives.
-fn gate_bit(gate: Gate, nets: &[bool]) -> bool {
-    match gate {
-        Gate::And(x, y) => bit(nets, x) && bit(nets, y),
-        Gate::Or(x, y) => bit(nets, x) || bit(nets, y),
-        Gate::Xor(x, y) => bit(nets, x) != bit(nets, y),
-        Gate::Nand(x, y) => !(bit(nets, x) && bit(nets, y)),
-        Gate::Nor(x, y) => !(bit(nets, x) || bit(nets, y)),
-        Gate::Xnor(x, y) => bit(nets, x) == bit(nets, y),
-        Gate::Not(x) => !bit(nets, x),
-        Gate::Buf(x) => bit(nets, x),
-        Gate::Zero => false,
-        Gate::One => true,
-    }
-}
-
-// The output word, from the bits of the nets.
-fn word(net: &Netlist, nets: &[bool]) -> u16 {
-    let mut word = 0u16;
-    for i in 0..8usize {
-        if i < usize::from(net.width()) && bit(nets, net.output(i)) {
-            word |= 1 << i;
-        }
-    }
-    word
-}
-
-// The output word where the bits of the inputs, word by word, are those of `input`.
-fn output(net: &Netlist, input: u32) -> u16 {
-    let mut nets = [false; 256];
-    for x in 0..net.nets().min(256) {
-        nets[x] = match net.driver(x) {
-            Some(gate) => gate_bit(gate, &nets),
-            None => (input >> (x % 32)) & 1 == 1,
-        };
-    }
-    word(net, &nets)
-}
+const NO_ROWS: [Term<[u16; 3]>; ROWS] = [Term {
+    code: 0,
+    mono: [0; 3],
+}; ROWS];
 
 // x to the power e.
 fn power(f: &Shift, x: u16, e: u16) -> u16 {
-    let mut p = f.one();
-    for _ in 0..e {
-        p = f.mul(p, x);
-    }
-    p
+    (0..e).fold(f.one(), |p, _| f.mul(p, x))
 }
 
-// The value of a card at that input.
+// The value of a card where the bits of the inputs, word by word, are those of `input`.
 fn value(f: &Shift, card: &[Term<[u16; 3]>], input: u32) -> u16 {
-    let mut sum = 0;
-    for t in card {
-        let mut product = t.code;
-        let mut left = input;
-        for e in t.mono {
-            let word = (left & (u32::from(f.order()) - 1)) as u16;
-            product = f.mul(product, power(f, word, e));
-            left >>= f.width();
-        }
-        sum ^= product;
-    }
-    sum
-}
-
-// Whether the card has the circuit's output at the first `tried` inputs.
-fn holds(work: &Work, tried: u32, card: &[Term<[u16; 3]>]) -> bool {
-    for input in 0..tried {
-        if value(&work.field, card, input) != output(&work.netlist, input) {
-            return false;
-        }
-    }
-    true
-}
-
-// Whether two lists of terms are one.
-fn same<M: Copy, K: Kind<M>>(kind: &K, a: &[Term<M>], b: &[Term<M>]) -> bool {
-    if a.len() != b.len() {
-        return false;
-    }
-    for (x, y) in a.iter().zip(b) {
-        if x.code != y.code || kind.less(x.mono, y.mono) || kind.less(y.mono, x.mono) {
-            return false;
-        }
-    }
-    true
+    let (order, width) = (u32::from(f.order()), f.width());
+    let words = [input, input >> width, input >> (2 * width)].map(|x| (x % order) as u16);
+    card.iter().fold(0, |sum, term| {
+        let factors = words.iter().zip(&term.mono);
+        sum ^ factors.fold(term.code, |p, (x, e)| f.mul(p, power(f, *x, *e)))
+    })
 }
 
 // How many inputs there are, where an input has at most 8 bits; else 0.
 fn inputs(net: &Netlist) -> u32 {
-    let bits = net.inputs();
-    if bits > 8 { 0 } else { 1 << (bits as u32) }
+    match net.inputs() {
+        bits @ 0..=8 => 1 << bits,
+        _ => 0,
+    }
 }
 
-// Writes the number of bit terms, of card rows and of inputs that were tried, and whether all agreed.
-pub fn round(rt: &HostRuntime, job: &[u8]) -> anyhow::Result<()> {
-    let Ok(work) = open(job) else {
-        return Ok(());
-    };
-    let n = usize::from(work.netlist.words());
-    let no_bits = [Term {
-        code: 0,
-        mono: Nets.unit(),
-    }; ROWS];
-    let no_rows = [Term {
-        code: 0,
-        mono: [0; 3],
-    }; ROWS];
-    let mut bits = no_bits;
-    let Ok(terms) = bit_form(&work.netlist, &mut bits) else {
-        return Ok(());
-    };
-    let form = &bits[0..terms];
-    let (mut a, mut b, mut card) = (no_rows, no_rows, no_rows);
-    let Ok(rows) = to_words(&work.field, n, form, &mut a, &mut b, &mut card) else {
-        return Ok(());
-    };
-    let card = &card[0..rows];
-    let tried = inputs(&work.netlist);
-    let right = holds(&work, tried, card);
-    let (mut c, mut d, mut back) = (no_bits, no_bits, no_bits);
-    let Ok(again) = to_bits(&work.field, n, card, &mut c, &mut d, &mut back) else {
-        println!(rt; "round: full, {terms} bit terms, {rows} rows, {tried} inputs, right {right}")?;
-        return Ok(());
-    };
-    let back = &back[0..again];
-    let mut twice = no_rows;
-    let same_bits = same(&Nets, form, back);
-    let same_card = match to_words(&work.field, n, back, &mut a, &mut b, &mut twice) {
-        Ok(count) => same(&Exps::new([255; 3]), card, &twice[0..count]),
-        Err(_) => false,
-    };
-    println!(rt;
-        "round: {terms} bit terms, {rows} rows, {tried} inputs, right {right}, same bits {same_bits}, same card {same_card}"
-    )?;
-    Ok(())
+// Whether the bit form and the card are the same on the way back.
+#[derive(Clone, Copy)]
+struct Kept {
+    bits: bool,
+    card: bool,
+}
+
+fn back(
+    field: &Shift,
+    words: usize,
+    form: &[Term<NetSet>],
+    card: &[Term<[u16; 3]>],
+) -> Result<Kept, Fault> {
+    let (mut first, mut second, mut bits) = (no_bits(), no_bits(), no_bits());
+    let terms = to_bits(field, words, card, &mut first, &mut second, &mut bits)?;
+    let again = &bits[..terms];
+    let (mut first, mut second, mut rows) = (NO_ROWS, NO_ROWS, NO_ROWS);
+    let count = to_words(field, words, again, &mut first, &mut second, &mut rows);
+    Ok(Kept {
+        bits: again == form,
+        card: count.is_ok_and(|n| &rows[..n] == card),
+    })
+}
+
+// The numbers of bit terms, of card rows and of inputs that were tried; whether the card was right at each; and what the way back gave.
+#[derive(Clone, Copy)]
+pub(crate) struct RoundTrip {
+    terms: usize,
+    rows: usize,
+    tried: u32,
+    right: bool,
+    kept: Result<Kept, Fault>,
+}
+
+impl fmt::Display for RoundTrip {
+    fn fmt<W: fmt::Write>(&self, f: &mut fmt::Formatter<W>) -> fmt::Result {
+        let RoundTrip {
+            terms,
+            rows,
+            tried,
+            right,
+            kept,
+        } = self;
+        match kept {
+            Ok(Kept { bits, card }) => write!(
+                f,
+                "round: {terms} bit terms, {rows} rows, {tried} inputs, right {right}, same bits {bits}, same card {card}"
+            ),
+            Err(_) => write!(
+                f,
+                "round: full, {terms} bit terms, {rows} rows, {tried} inputs, right {right}"
+            ),
+        }
+    }
+}
+
+// The round of a job that has a card.
+pub(crate) fn round(job: &[u8]) -> Result<RoundTrip, Fault> {
+    let Work { field, netlist } = open(job)?;
+    let words = usize::from(netlist.words());
+    let mut bits = no_bits();
+    let terms = bit_form(&netlist, &mut bits)?;
+    let form = &bits[..terms];
+    let (mut first, mut second, mut card) = (NO_ROWS, NO_ROWS, NO_ROWS);
+    let rows = to_words(&field, words, form, &mut first, &mut second, &mut card)?;
+    let card = &card[..rows];
+    let tried = inputs(&netlist);
+    Ok(RoundTrip {
+        terms,
+        rows,
+        tried,
+        right: (0..tried).all(|input| value(&field, card, input) == output(&netlist, input)),
+        kept: back(&field, words, form, card),
+    })
 }

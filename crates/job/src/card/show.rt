@@ -1,7 +1,7 @@
 // The text of a card.
-ghost use Rattle.std.specs.Prelude.{◌≡◌, ◌+◌, ◌<◌, Some, slice_index_or};
+ghost use Rattle.std.specs.Prelude.{◌≡◌, Some};
 ghost use Rattle.job.specs.Printing.{degree, total, header_line};
-ghost use Rattle.job.specs.Cards.{no_row, header_of, term_of, terms_of, shown_row, shown_card};
+ghost use Rattle.job.specs.Cards.{header_of, terms_of, shown_row, shown_card};
 
 use super::{Card, Header, Row};
 use std::fmt;
@@ -11,16 +11,12 @@ impl fmt::Display for Row {
     ghost output = { λ r. Some (shown_row r) };
 
     fn fmt<W: fmt::Write>(&self, f: &mut fmt::Formatter<W>) -> fmt::Result {
-        let c = self.code;
-        let a = self.exponents[0];
-        let b = self.exponents[1];
-        let d = self.exponents[2];
-        match self.words {
-            0 => write!(f, "term {c}"),
-            1 => write!(f, "term {c} {a}"),
-            2 => write!(f, "term {c} {a} {b}"),
-            _ => write!(f, "term {c} {a} {b} {d}"),
+        let code = self.term.code;
+        write!(f, "term {code}")?;
+        for exponent in self.term.mono.iter().take(self.words) {
+            write!(f, " {exponent}")?;
         }
+        Ok(())
     }
 }
 
@@ -29,33 +25,22 @@ impl fmt::Display for Header {
     ghost output = { λ h. Some (header_line h.words h.width h.polynomial h.rows h.degree) };
 
     fn fmt<W: fmt::Write>(&self, f: &mut fmt::Formatter<W>) -> fmt::Result {
-        let n = self.words;
-        let k = self.width;
-        let p = self.polynomial;
-        let rows = self.rows;
-        let degree = self.degree;
-        write!(f, "card {n} {k} {p} {rows} {degree}")
+        let Header {
+            words,
+            width,
+            polynomial,
+            rows,
+            degree,
+        } = self;
+        write!(f, "card {words} {width} {polynomial} {rows} {degree}")
     }
 }
 
 // The sum of three exponents.
-fn sum(exponents: [u16; 3]) -> u32
-    ensures { result ≡ total exponents }
+fn sum(exponents: &[u16; 3]) -> u32
+    ensures { result ≡ total exponents.now }
 {
-    let [a, b, c] = exponents;
-    u32::from(a) + (u32::from(b) + u32::from(c))
-}
-
-fn row_of(words: usize, code: u16, exponents: [u16; 3]) -> Row
-    ensures words { result.words ≡ words }
-    ensures code { result.code ≡ code }
-    ensures exponents { result.exponents ≡ exponents }
-{
-    Row {
-        words,
-        code,
-        exponents,
-    }
+    exponents.iter().map(|e| u32::from(*e)).sum()
 }
 
 impl Card {
@@ -63,11 +48,12 @@ impl Card {
     pub fn degree(&self) -> u32
         ensures { result ≡ degree (terms_of self.now) }
     {
-        let mut most = 0;
-        for i in (0..self.len).rev() {
-            most = sum(self.rows[i].mono).max(most);
-        }
-        most
+        self.rows
+            .as_slice()
+            .iter()
+            .map(|row| sum(&row.mono))
+            .max()
+            .unwrap_or(0)
     }
 
     fn header(&self) -> Header
@@ -77,19 +63,9 @@ impl Card {
             words: self.words,
             width: self.width,
             polynomial: self.polynomial,
-            rows: self.len,
+            rows: self.rows.len(),
             degree: self.degree(),
         }
-    }
-
-    // The row at `i`.
-    fn row(&self, i: usize) -> Row
-        requires { i < self.now.len }
-        ensures words { result.words ≡ self.now.words }
-        ensures term { term_of result ≡ slice_index_or (terms_of self.now) i no_row }
-    {
-        let t = self.rows[i];
-        row_of(self.words, t.code, t.mono)
     }
 }
 
@@ -100,8 +76,11 @@ impl fmt::Display for Card {
     fn fmt<W: fmt::Write>(&self, f: &mut fmt::Formatter<W>) -> fmt::Result {
         let header = self.header();
         write!(f, "{header}")?;
-        for i in 0..self.len {
-            let row = self.row(i);
+        for term in self.rows.as_slice() {
+            let row = Row {
+                words: self.words,
+                term: *term,
+            };
             write!(f, "\n{row}")?;
         }
         Ok(())

@@ -1,24 +1,21 @@
-use Rattle.std.proofs.Common.{◌≡◌, suc, ◌-◌, ◌<◌, max, length, drop, sym, ap, ◌∙◌, ap₂, arith}
-use Rattle.std.proofs.lemmas.List.{drop_all, get_or-take, length-take-le}
-use Rattle.job.specs.Printing.{total, degree}
-use Rattle.job.specs.Cards.{terms_of, no_row}
-use Rattle.job.proofs.Joining.{degree_from}
+use Rattle.std.proofs.Common.{◌≡◌, ℕ, max, List, [], ◌∷◌, ap, ◌∙◌, arith, rules, unwrap_or}
+use Rattle.std.specs.List.{fold}
+use Rattle.std.specs.Ordering.{max_by_ordering, nat_cmp}
+use Rattle.std.proofs.lemmas.Iterator.{YieldsList-from_slice, YieldsList-from_map}
+use Rattle.std.proofs.lemmas.Iterator.Consumers.{reduce_from_yields_List}
+use Rattle.std.proofs.lemmas.List.Folds.{max_of_map}
+use Rattle.terms.specs.declared.Term.{Term}
+use Rattle.job.specs.Printing.{degree, total}
+use Rattle.job.specs.Cards.{terms_of}
 use Rattle.job.proofs.card.Card.degree.Goals as goal
 
-pub loop-i-init : goal.loop-i-init
-loop-i-init c =
-    let self = c.args.self.now in
-    let long : length (terms_of self) ≡ self.len = length-take-le self.len self.rows (omega (arith, self.few, self.all)) in
-    ap degree (sym (drop_all self.len (terms_of self) (omega arith)))
+-- the degree, found row by row
+degree_so_far : (most : ℕ) (ts : List (Term (List ℕ))) → fold (λ most t. max most (total t.mono)) most ts ≡ max most (degree ts)
+degree_so_far most [] = omega arith
+degree_so_far most (t ∷ ts) = omega (arith, degree_so_far (max most (total t.mono)) ts)
 
-pub loop-i-preserved : goal.loop-i-preserved
-loop-i-preserved c =
-    let self = c.args.self.now in
-    let i = c.loop-i.i - 1 in
-    let long : length (terms_of self) ≡ self.len = length-take-le self.len self.rows (omega (arith, self.few, self.all)) in
-    let next : suc i ≡ c.loop-i.i = omega arith in
-    let within : i < self.len = omega arith in
-    let rest : max c.sum.result c.loop-i.most ≡ degree (drop i (terms_of self)) =
-    ap₂ max (c.sum.ensures ∙ ap (λ t. total t.mono) (sym (get_or-take self.len self.rows i no_row within))) (c.loop-i.invariant ∙ ap (λ j. degree (drop j (terms_of self))) (sym next))
-    ∙ sym (degree_from (terms_of self) i no_row (omega arith)) in
-    cc
+pub returns : goal.returns
+returns c =
+    let ts = terms_of c.args.self.now in
+    let most = reduce_from_yields_List (λ p z. max_by_ordering (nat_cmp p z) p z) c.map.result c.max.result c.max.ensures.ran (YieldsList-from_map _ (λ t. total t.mono) (YieldsList-from_slice ts cc) c.map.ensures.closure (λ x r q k. search rules)) in
+    c.unwrap_or.ensures ∙ ap (λ o. unwrap_or o 0) most ∙ omega (arith, max_of_map (λ t. total t.mono) ts, degree_so_far 0 ts)
