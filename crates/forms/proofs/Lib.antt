@@ -1,5 +1,4 @@
 pub mod Packed
-pub mod Sums
 pub mod Rows
 pub mod Walk
 pub mod Weights

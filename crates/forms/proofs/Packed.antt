@@ -1,8 +1,9 @@
 -- The words of an input in one number, and back. Assumes nothing.
-use Rattle.std.proofs.Common.{◌≡◌, ℕ, zero, suc, ◌+◌, ◌-◌, ◌*◌, ◌/◌, ◌%◌, ◌^◌, ◌<◌, ◌≤◌, true, eqb, ltb, leb, List, [], ◌∷◌, length, get_or, sym, refl, ap, ◌∙◌, subst, ap₂, ⊎_elim, mul-le-mul_right, mod-lt, mul_comm, div-add-mod', zero-mul, div-one, arith, pow_pos, pow-add, shr-shr}
+use Rattle.std.proofs.Common.{◌≡◌, ℕ, zero, suc, ◌+◌, ◌-◌, ◌*◌, ◌/◌, ◌%◌, ◌^◌, ◌<◌, ◌≤◌, true, eqb, ltb, leb, List, [], ◌∷◌, length, get_or, reverse, sym, refl, ap, ◌∙◌, subst, ap₂, ⊎_elim, mul-le-mul_right, mod-lt, mul_comm, div-add-mod', arith, pow_pos, pow-add, shr-shr}
 use native.Mathlib.Nat.{zero-div}
 use lib.Bits.{bit_and, bit_or}
 use lib.Pow.{le_ones}
+use Rattle.std.specs.List.{fold}
 use Rattle.std.proofs.lemmas.Nat.{and_mask, one_shl, shl_whole, or_shifted, mul-add-lt, div_below}
 use Rattle.std.proofs.lemmas.Bool.{cases_lt, le-leb, lt-ltb, and_from, cond-true, cases_Bool}
 use Rattle.terms.specs.Counts.{rank}
@@ -17,10 +18,10 @@ use Rattle.terms.proofs.Subsets.{past_bit}
 use Rattle.forms.specs.Inputs.{Width, InputOf}
 
 -- the mask of k bits
-abbrev mask : ℕ → ℕ
+abbrev pub mask : ℕ → ℕ
 mask k = (1 * 2 ^ k) % 2 ^ 64 - 1
 
-masked : (k x : ℕ) → k ≤ 16 → bit_and x (mask k) ≡ x % 2 ^ k
+pub masked : (k x : ℕ) → k ≤ 16 → bit_and x (mask k) ≡ x % 2 ^ k
 masked k x l = ap (λ m. bit_and x (m - 1)) (one_shl k 64 (omega arith)) ∙ and_mask x k
 
 -- the low bits of a number stay
@@ -48,27 +49,30 @@ parts_bit k [] i j l = refl
 parts_bit k (x ∷ xs) zero j l = mod_bit k x j l
 parts_bit k (x ∷ xs) (suc i) j l = parts_bit k xs i j l
 
-abbrev packed : ℕ → ℕ → ℕ → ℕ → ℕ
-packed k a b c = bit_or ((bit_or ((bit_and c (mask k) * 2 ^ k) % 2 ^ 64) (bit_and b (mask k)) * 2 ^ k) % 2 ^ 64) (bit_and a (mask k))
+-- each word, the highest first, goes below those before it
+abbrev pub packed : ℕ → List ℕ → ℕ
+packed k xs = fold (λ u x. bit_or ((u * 2 ^ k) % 2 ^ 64) (bit_and x (mask k))) 0 (reverse xs)
 
-packed_rank : (k a b c : ℕ) → Width k → packed k a b c ≡ rank k (low_parts k (a ∷ (b ∷ (c ∷ []))))
+packed_rank : (k a b c : ℕ) → Width k → packed k (a ∷ (b ∷ (c ∷ []))) ≡ rank k (low_parts k (a ∷ (b ∷ (c ∷ []))))
 packed_rank k a b c w =
     let C = c % 2 ^ k in
     let hc : C < 2 ^ k = mod-lt c (pow_pos k) in
     let hb : b % 2 ^ k < 2 ^ k = mod-lt b (pow_pos k) in
-    let u : bit_or ((bit_and c (mask k) * 2 ^ k) % 2 ^ 64) (bit_and b (mask k)) ≡ b % 2 ^ k + 2 ^ k * C =
-    ap (λ x. bit_or ((x * 2 ^ k) % 2 ^ 64) (bit_and b (mask k))) (masked k c w.1) ∙ joined k C b k hc (omega arith) w.1 in
+    let first = joined k 0 c 0 (omega arith) (omega arith) w.1 in
+    let e : C + 2 ^ k * 0 ≡ C = omega arith in
+    let second = joined k C b k hc (omega arith) w.1 in
     let small : b % 2 ^ k + 2 ^ k * C < 2 ^ (k + k) = omega (arith, mul-add-lt C (2 ^ k) (b % 2 ^ k) (2 ^ k) hc hb, mul_comm C (2 ^ k), pow-add 2 k k) in
-    let e : C ≡ C + 2 ^ k * 0 = omega arith in
-    ap (λ x. bit_or ((x * 2 ^ k) % 2 ^ 64) (bit_and a (mask k))) u ∙ joined k (b % 2 ^ k + 2 ^ k * C) a (k + k) small (omega arith) w.1
-    ∙ ap (λ x. a % 2 ^ k + 2 ^ k * (b % 2 ^ k + 2 ^ k * x)) e
+    let third = joined k (b % 2 ^ k + 2 ^ k * C) a (k + k) small (omega arith) w.1 in
+    rw (first, e, second, third)
 
-pub packed_bits : (k : ℕ) (xs : List ℕ) (a b c : ℕ) → Width k → length xs ≡ 3 → a ≡ get_or xs 0 0 → b ≡ get_or xs 1 0 → c ≡ get_or xs 2 0 → (g : ℕ) → eqb (packed k a b c / 2 ^ g % 2) 1 ≡ bit_at k xs g
-packed_bits k xs a b c w l p q r g =
-    let ys = a ∷ (b ∷ (c ∷ [])) in
-    ap (λ x. eqb (x / 2 ^ g % 2) 1) (packed_rank k a b c w)
-    ∙ ap (λ x. eqb x 1) (rank_bit k w.0 (low_parts k ys) (parts_below k ys) g ∙ parts_bit k ys (g / k) (g % k) (mod-lt g w.0))
-    ∙ ap (λ zs. bit_at k zs g) (ap₂ ◌∷◌ p (ap₂ (λ x y. x ∷ (y ∷ [])) q r) ∙ sym (as_three xs l))
+pub packed_bits : (k : ℕ) (xs : List ℕ) → Width k → length xs ≡ 3 → (g : ℕ) → eqb (packed k xs / 2 ^ g % 2) 1 ≡ bit_at k xs g
+packed_bits k xs w l g = subst (λ ys. eqb (packed k ys / 2 ^ g % 2) 1 ≡ bit_at k ys g) (sym (as_three xs l)) (three (get_or xs 0 0) (get_or xs 1 0) (get_or xs 2 0))
+  where
+    three : (a b c : ℕ) → eqb (packed k (a ∷ (b ∷ (c ∷ []))) / 2 ^ g % 2) 1 ≡ bit_at k (a ∷ (b ∷ (c ∷ []))) g
+    three a b c =
+        let ys = a ∷ (b ∷ (c ∷ [])) in
+        ap (λ x. eqb (x / 2 ^ g % 2) 1) (packed_rank k a b c w)
+        ∙ ap (λ x. eqb x 1) (rank_bit k w.0 (low_parts k ys) (parts_below k ys) g ∙ parts_bit k ys (g / k) (g % k) (mod-lt g w.0))
 
 -- ---- the three words of a number
 abbrev word : ℕ → ℕ → ℕ → ℕ
@@ -130,13 +134,3 @@ module _ (k : ℕ) (w : Width k) (s : NetSet) (a : ℕ) (same : (g : ℕ) → g 
         and_from (leb (word k a 0) (limit (2 ^ k) n 0)) _ (limited n 0 h (omega arith))
         (and_from (leb (word k a 1) (limit (2 ^ k) n 1)) _ (limited n 1 h (omega arith)) (and_from (leb (word k a 2) (limit (2 ^ k) n 2)) true (limited n 2 h (omega arith)) refl));
   }
-
-  -- as the code works them out
-  pub masked_input : InputOf k s (bit_and a (mask k) ∷ (bit_and (a / 2 ^ k) (mask k) ∷ (bit_and (a / 2 ^ (2 * k)) (mask k) ∷ [])))
-  masked_input =
-      let one : 1 * k ≡ k = omega arith in
-      let none : a ≡ a / 2 ^ (0 * k) = sym (ap (λ x. a / 2 ^ x) (zero-mul k) ∙ div-one a) in
-      let e : word k a 0 ∷ (word k a 1 ∷ (word k a 2 ∷ [])) ≡ bit_and a (mask k) ∷ (bit_and (a / 2 ^ k) (mask k) ∷ (bit_and (a / 2 ^ (2 * k)) (mask k) ∷ [])) =
-      ap₂ ◌∷◌ (sym (masked k a w.1 ∙ ap (λ x. x % 2 ^ k) none))
-      (ap₂ ◌∷◌ (ap (λ x. a / 2 ^ x % 2 ^ k) one ∙ sym (masked k (a / 2 ^ k) w.1)) (ap (λ x. x ∷ []) (sym (masked k (a / 2 ^ (2 * k)) w.1)))) in
-      subst (InputOf k s) e words_input

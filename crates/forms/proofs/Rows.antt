@@ -1,7 +1,7 @@
--- The rows of terms in falling order, from a row on. Assumes nothing.
-use Rattle.std.proofs.Common.{◌≡◌, ℕ, ◌+◌, ◌<◌, ◌≤◌, true, false, cond, not, ◌&&◌, List, [], ◌∷◌, length, get_or, drop, sym, refl, ap, ◌∙◌, subst, inl, inr, ⊎_elim, arith}
+-- The rows of terms in falling order. Assumes nothing.
+use Rattle.std.proofs.Common.{◌≡◌, ◌-◌, ◌<◌, ◌≤◌, true, false, cond, not, ◌&&◌, List, [], ◌∷◌, length, get_or, drop, take, sym, refl, ap, ◌∙◌, subst, inl, inr, ⊎_elim, arith}
 use lib.Bits.{bit_xor, xor_zero_l}
-use Rattle.std.proofs.lemmas.List.{drop_more, drop_all}
+use Rattle.std.proofs.lemmas.List.{take_all}
 use Rattle.std.proofs.lemmas.Bool.{cases_Bool, true≢false}
 use Rattle.terms.specs.Nets.{net_model}
 use Rattle.terms.specs.Terms.{Under, Falling, coeff, same}
@@ -9,7 +9,7 @@ use Rattle.terms.specs.declared.Term.{Term}
 use Rattle.terms.specs.declared.nets.NetSet.{NetSet}
 use Rattle.terms.specs.BothKinds.{net_laws}
 use Rattle.terms.proofs.Laws.{lower, higher, level, stands, under_trans, same_higher, coeff_under, coeff_head}
-use Rattle.forms.specs.Differences.{Occurs, NoneAbove, Leading, TakenOff, RowAt}
+use Rattle.forms.specs.Differences.{Occurs, NoneAbove, Leading, TakenOff, RowOf}
 
 -- ---- the order
 pub not_both : (a b : NetSet) → net_model.less a b ≡ true → net_model.less b a ≡ false
@@ -29,10 +29,16 @@ under_occurs m [] u x o = absurd o
 under_occurs m (t ∷ ts) u x (inl e) = ap (λ y. net_model.less y m) e ∙ u.0
 under_occurs m (t ∷ ts) u x (inr o) = under_occurs m ts u.1 x o
 
-top_none : (m : NetSet) (t : Term NetSet) (ts : List (Term NetSet)) → Falling net_model (t ∷ ts) → net_model.less m t.mono ≡ false → NoneAbove m (t ∷ ts)
-top_none m t ts f l x (inl e) = ap (net_model.less m) e ∙ l
-top_none m t ts f l x (inr o) =
-    ⊎_elim (λ y. absurd (true≢false (sym (net_laws.less_trans m x t.mono y (under_occurs t.mono ts f.0 x o)) ∙ l))) (λ n. n) (cases_Bool (net_model.less m x))
+first_occurs : (d : Term NetSet) (ts : List (Term NetSet)) → 1 ≤ length ts → Occurs (get_or ts 0 d).mono ts
+first_occurs d [] l = absurd (omega arith)
+first_occurs d (t ∷ ts) l = inl refl
+
+-- no set is above the first
+none_above : (d : Term NetSet) (m : NetSet) (ts : List (Term NetSet)) → Falling net_model ts → (1 ≤ length ts → net_model.less m (get_or ts 0 d).mono ≡ false) → NoneAbove m ts
+none_above d m [] f l x o = absurd o
+none_above d m (t ∷ ts) f l x (inl e) = ap (net_model.less m) e ∙ l (omega arith)
+none_above d m (t ∷ ts) f l x (inr o) =
+    ⊎_elim (λ y. absurd (true≢false (sym (net_laws.less_trans m x t.mono y (under_occurs t.mono ts f.0 x o)) ∙ l (omega arith)))) (λ n. n) (cases_Bool (net_model.less m x))
 
 -- the row of m comes off
 pub taken_head : (t : Term NetSet) (ts : List (Term NetSet)) → Falling net_model (t ∷ ts) → TakenOff t.mono t.code (t ∷ ts) ts
@@ -54,64 +60,49 @@ taken_none m ts u f = record {
   falling = f;
 }
 
--- ---- from row i on
-module _ (ts : List (Term NetSet)) (i : ℕ) (f : Falling net_model (drop i ts)) where
-  pub past_none : (m : NetSet) → length ts ≤ i → NoneAbove m (drop i ts)
-  past_none m l = subst (NoneAbove m) (sym (drop_all i ts l)) (λ x o. absurd o)
+-- ---- the row of a set above which none stands
+absent : (m : NetSet) (ts : List (Term NetSet)) → Under net_model m ts → Falling net_model ts → RowOf m 0 ts ts
+absent m ts u f = record {
+  taken = taken_none m ts u f;
+  within = omega arith;
+  onward = λ o. absurd (true≢false (sym (under_occurs m ts u m o) ∙ net_laws.less_irrefl m));
+}
 
-  absent : (m : NetSet) → i ≤ length ts → Under net_model m (drop i ts) → RowAt m 0 ts i i
-  absent m h u = record {
-    taken = taken_none m (drop i ts) u f;
-    from = omega arith;
-    to = h;
-    onward = λ o. absurd (true≢false (sym (under_occurs m (drop i ts) u m o) ∙ net_laws.less_irrefl m));
-  }
+pub row_past : (m : NetSet) (ts : List (Term NetSet)) → Falling net_model ts → length ts < 1 → RowOf m 0 ts ts
+row_past m [] f l = absent m [] tt f
+row_past m (t ∷ ts) f l = absurd (omega arith)
 
-  pub row_past : (m : NetSet) → i ≤ length ts → length ts ≤ i → RowAt m 0 ts i i
-  row_past m h l = absent m h (subst (Under net_model m) (sym (drop_all i ts l)) tt)
+pub row_below : (d : Term NetSet) (m : NetSet) (ts : List (Term NetSet)) → Falling net_model ts → 1 ≤ length ts → true ≡ net_model.less (get_or ts 0 d).mono m → RowOf m 0 ts ts
+row_below d m [] f l e = absurd (omega arith)
+row_below d m (t ∷ ts) f l e = absent m (t ∷ ts) (sym e, under_trans net_model net_laws t.mono m (sym e) ts f.0) f
 
-  module _ (d : Term NetSet) (l : i < length ts) where
-    rows : drop i ts ≡ get_or ts i d ∷ drop (i + 1) ts
-    rows = drop_more ts i d l
-
-    falls : Falling net_model (get_or ts i d ∷ drop (i + 1) ts)
-    falls = subst (Falling net_model) rows f
-
-    pub row_none : (m : NetSet) → net_model.less m (get_or ts i d).mono ≡ false → NoneAbove m (drop i ts)
-    row_none m n = subst (NoneAbove m) (sym rows) (top_none m (get_or ts i d) (drop (i + 1) ts) falls n)
-
-    pub row_occurs : Occurs (get_or ts i d).mono (drop i ts)
-    row_occurs = subst (Occurs (get_or ts i d).mono) (sym rows) (inl refl)
-
-    pub row_here : (m : NetSet) → NoneAbove m (drop i ts) → net_model.less (get_or ts i d).mono m ≡ false → RowAt m (get_or ts i d).code ts i (i + 1)
-    row_here m n e =
-        let q : (get_or ts i d).mono ≡ m = net_laws.less_total (get_or ts i d).mono m e (n (get_or ts i d).mono row_occurs) in
-        record {
-          taken = subst (λ us. TakenOff m (get_or ts i d).code us (drop (i + 1) ts)) (sym rows) (subst (λ x. TakenOff x (get_or ts i d).code (get_or ts i d ∷ drop (i + 1) ts) (drop (i + 1) ts)) q (taken_head (get_or ts i d) (drop (i + 1) ts) falls));
-          from = omega arith;
-          to = omega arith;
-          onward = λ o. refl;
-        }
-
-    pub row_below : (m : NetSet) → net_model.less (get_or ts i d).mono m ≡ true → RowAt m 0 ts i i
-    row_below m e = absent m (omega arith) (subst (Under net_model m) (sym rows) (e, under_trans net_model net_laws (get_or ts i d).mono m e (drop (i + 1) ts) falls.0))
+pub row_here : (d : Term NetSet) (m : NetSet) (ts : List (Term NetSet)) → Falling net_model ts → NoneAbove m ts → 1 ≤ length ts → false ≡ net_model.less (get_or ts 0 d).mono m → RowOf m (get_or ts 0 d).code ts (take (length ts - 1) (drop 1 ts))
+row_here d m [] f n h e = absurd (omega arith)
+row_here d m (t ∷ ts) f n h e =
+    let q : t.mono ≡ m = net_laws.less_total t.mono m (sym e) (n t.mono (inl refl)) in
+    let r : RowOf m t.code (t ∷ ts) ts = record {
+      taken = subst (λ x. TakenOff x t.code (t ∷ ts) ts) q (taken_head t ts f);
+      within = omega arith;
+      onward = λ o. omega arith;
+    } in
+    subst (λ xs. RowOf m t.code (t ∷ ts) xs) (sym (take_all (length (t ∷ ts) - 1) ts (omega arith))) r
 
 -- ---- the greater of two leading sets
-module _ (us vs : List (Term NetSet)) (i j : ℕ) (f : Falling net_model (drop i us)) (g : Falling net_model (drop j vs)) (d : Term NetSet) where
+module _ (d : Term NetSet) (us vs : List (Term NetSet)) (f : Falling net_model us) (g : Falling net_model vs) where
   abbrev a : NetSet
-  a = (get_or us i d).mono
+  a = (get_or us 0 d).mono
 
   abbrev b : NetSet
-  b = (get_or vs j d).mono
+  b = (get_or vs 0 d).mono
 
-  pub lead_right_alone : length us ≤ i → j < length vs → Leading (drop i us) (drop j vs) b
-  lead_right_alone h l = record { occurs = inr (row_occurs vs j g d l); left = past_none us i f b h; right = row_none vs j g d l b (net_laws.less_irrefl b) }
+  pub lead_left : 1 ≤ length us → 1 ≤ length vs → false ≡ net_model.less a b → Leading us vs a
+  lead_left h k e = record { occurs = inl (first_occurs d us h); left = none_above d a us f (λ _. net_laws.less_irrefl a); right = none_above d a vs g (λ _. sym e) }
 
-  pub lead_right : i < length us → j < length vs → net_model.less a b ≡ true → Leading (drop i us) (drop j vs) b
-  lead_right h l e = record { occurs = inr (row_occurs vs j g d l); left = row_none us i f d h b (not_both a b e); right = row_none vs j g d l b (net_laws.less_irrefl b) }
+  pub lead_left_alone : 1 ≤ length us → length vs < 1 → Leading us vs a
+  lead_left_alone h k = record { occurs = inl (first_occurs d us h); left = none_above d a us f (λ _. net_laws.less_irrefl a); right = none_above d a vs g (λ l. absurd (omega arith)) }
 
-  pub lead_left_alone : i < length us → length vs ≤ j → Leading (drop i us) (drop j vs) a
-  lead_left_alone h l = record { occurs = inl (row_occurs us i f d h); left = row_none us i f d h a (net_laws.less_irrefl a); right = past_none vs j g a l }
+  pub lead_right : 1 ≤ length us → 1 ≤ length vs → true ≡ net_model.less a b → Leading us vs b
+  lead_right h k e = record { occurs = inr (first_occurs d vs k); left = none_above d b us f (λ _. not_both a b (sym e)); right = none_above d b vs g (λ _. net_laws.less_irrefl b) }
 
-  pub lead_left : i < length us → j < length vs → net_model.less a b ≡ false → Leading (drop i us) (drop j vs) a
-  lead_left h l e = record { occurs = inl (row_occurs us i f d h); left = row_none us i f d h a (net_laws.less_irrefl a); right = row_none vs j g d l a e }
+  pub lead_right_alone : length us < 1 → 1 ≤ length vs → Leading us vs b
+  lead_right_alone h k = record { occurs = inr (first_occurs d vs k); left = none_above d b us f (λ l. absurd (omega arith)); right = none_above d b vs g (λ _. net_laws.less_irrefl b) }

@@ -1,5 +1,5 @@
 -- The walk down two forms, which keeps the least set at which they differ. Assumes nothing.
-use Rattle.std.proofs.Common.{◌≡◌, ℕ, ◌<◌, ◌≤◌, true, leb, ◌⊎◌, List, [], ◌∷◌, Some, None, Option, sym, refl, ap, ◌∙◌, subst, inl, inr, ⊎_elim, arith}
+use Rattle.std.proofs.Common.{◌≡◌, ℕ, ◌<◌, ◌≤◌, true, leb, ◌⊎◌, List, [], ◌∷◌, Some, None, Option, sym, ap, ◌∙◌, subst, inl, inr, ⊎_elim, arith}
 use Rattle.std.proofs.lemmas.Bool.{cases_Bool, cases_eq, leb-true, leb-false, true≢false, cond-true, cond-false}
 use Rattle.terms.specs.Counts.{nets_in}
 use Rattle.terms.specs.Forms.{Form}
@@ -49,17 +49,6 @@ module _ (us vs : List (Term NetSet)) where
     pub front : (t : NetSet) → Occurs t ls ⊎ Occurs t rs → Ahead ls rs t
     pub each : (t : NetSet) → Ahead ls rs t ⊎ ((coeff net_model t us ≡ coeff net_model t vs) ⊎ Best best t)
     pub found : Found ls rs best
-
-  pub walk_starts : Falling net_model us → Falling net_model vs → Walked us vs None
-  walk_starts f g = record {
-    falling_left = f;
-    falling_right = g;
-    of_left = λ t o. o;
-    of_right = λ t o. o;
-    front = λ t o. (refl, refl);
-    each = λ t. inl (refl, refl);
-    found = tt;
-  }
 
   pub walk_ends : Form us → Form vs → (best : Option NetSet) → Walked [] [] best → DifferenceIs us vs best
   walk_ends f g None w =

@@ -1,5 +1,5 @@
 -- Where two bit forms differ. Assumes nothing.
-use Rattle.std.specs.Prelude.{◌≡◌, ℕ, ◌+◌, ◌<◌, ◌≤◌, true, false, cond, ◌⊎◌, List, [], ◌∷◌, length, drop, Some, None, Option, ◌≢◌, nat_le}
+use Rattle.std.specs.Prelude.{◌≡◌, ℕ, ◌<◌, ◌≤◌, true, false, cond, ◌⊎◌, List, [], ◌∷◌, length, Some, None, Option, ◌≢◌, nat_le}
 use Rattle.terms.specs.Counts.{nets_in}
 use Rattle.terms.specs.Nets.{net_model}
 use Rattle.terms.specs.Sets.{Own}
@@ -39,6 +39,11 @@ pub record Leading (us vs : List (Term NetSet)) (m : NetSet) : Type 0 where
   pub left : NoneAbove m us
   pub right : NoneAbove m vs
 
+-- no set where there is no term, else the greatest
+abbrev pub LeadingIs : List (Term NetSet) → List (Term NetSet) → Option NetSet → Type 0
+LeadingIs us vs None = (us ≡ []) × (vs ≡ [])
+LeadingIs us vs (Some m) = Leading us vs m
+
 -- the set m with code c is taken off ts, where it stands there, and rest is left; c is 0 where it does not
 pub record TakenOff (m : NetSet) (c : ℕ) (ts rest : List (Term NetSet)) : Type 0 where
   pub here : coeff net_model m ts ≡ c
@@ -47,12 +52,11 @@ pub record TakenOff (m : NetSet) (c : ℕ) (ts rest : List (Term NetSet)) : Type
   pub under : (t : NetSet) → Occurs t rest → net_model.less t m ≡ true
   pub falling : Falling net_model rest
 
--- it is the row at i, if at all
-pub record RowAt (m : NetSet) (c : ℕ) (ts : List (Term NetSet)) (i next : ℕ) : Type 0 where
-  pub taken : TakenOff m c (drop i ts) (drop next ts)
-  pub from : i ≤ next
-  pub to : next ≤ length ts
-  pub onward : Occurs m (drop i ts) → next ≡ i + 1
+-- rest is ts with the row of m taken off, where m stands there
+pub record RowOf (m : NetSet) (c : ℕ) (ts rest : List (Term NetSet)) : Type 0 where
+  pub taken : TakenOff m c ts rest
+  pub within : length rest ≤ length ts
+  pub onward : Occurs m ts → length rest < length ts
 
 -- the better of the least set so far and a set below all before it
 abbrev pub better : Option NetSet → NetSet → NetSet

@@ -1,8 +1,10 @@
 -- What the working ends in. Assumes nothing.
-use Rattle.std.proofs.Common.{◌≡◌, ℕ, suc, ◌+◌, ◌-◌, ◌*◌, ◌^◌, ◌<◌, ◌≤◌, Bool, true, false, cond, not, ◌&&◌, ◌||◌, eqb, List, [], ◌∷◌, map, length, get_or, sym, refl, ap, ◌∙◌, subst, ap₂, ⊎_elim, mul_assoc, add-mul, zero-mul, mul-one, arith, pow_pos}
+use Rattle.std.proofs.Common.{◌≡◌, ℕ, suc, ◌+◌, ◌-◌, ◌*◌, ◌^◌, ◌<◌, ◌≤◌, Bool, true, false, cond, not, ◌&&◌, ◌||◌, eqb, List, [], ◌∷◌, map, length, get_or, sym, refl, ap, ◌∙◌, subst, ap₂, ⊎_elim, zero-mul, mul-one, arith, pow_pos}
 use lib.Bits.{bit_xor, xor_zero_r, xor_comm, xor_shifted, xor_lt}
 use lib.Pow.{pow-lt}
-use Rattle.std.proofs.lemmas.Bool.{cases_order, eqb-true, eq-eqb, or_cases, and_parts, true≢false}
+use Rattle.std.proofs.Math.Bool.{and-true}
+use Rattle.terms.proofs.Members.{never}
+use Rattle.std.proofs.lemmas.Bool.{cases_order, eqb-true, eq-eqb, or_cases, and_parts}
 use Rattle.terms.specs.Terms.{Monos, Under}
 use Rattle.terms.specs.Nets.{net_model}
 use Rattle.terms.specs.declared.Term.{Term}
@@ -25,9 +27,6 @@ use Rattle.terms.proofs.Values.{value_at_agree}
 use Rattle.gates.proofs.Lit.{on_among}
 use Rattle.terms.proofs.Additions.{TermsAll, adding_keeps}
 use Rattle.gates.proofs.Kept.{AllBelow, value_at_adding, value_at_step}
-
-never : {A : Type 0} → true ≡ false → A
-never e = absurd (true≢false e)
 
 -- ---- a gate reads nets below its own
 pub below_more : (m n : ℕ) → m ≤ n → (xs : List ℕ) → Below m xs → Below n xs
@@ -99,30 +98,9 @@ adding_terms c cap n l =
     })
 
 -- ---- the start
-twice : (i : ℕ) → 2 ^ suc i ≡ 2 ^ i * 2
-twice i = omega arith
-
-odd_sum : (w p : ℕ) → w * (p * 2) + p ≡ (1 + 2 * w) * p
-odd_sum w p =
-    let e = mul_assoc w p 2 in
-    let f = add-mul 1 (2 * w) p in
-    let g = mul_assoc 2 w p in
-    omega arith
-
-even_sum : (w p : ℕ) → w * (p * 2) + 0 ≡ (0 + 2 * w) * p
-even_sum w p =
-    let e = mul_assoc w p 2 in
-    let f = add-mul 0 (2 * w) p in
-    let g = mul_assoc 2 w p in
-    omega arith
-
 module _ (v : ℕ → Bool) where
   pub set_on_one : (x : ℕ) (s : NetSet) → x < 256 → SetOf (x ∷ []) s → set_on v s ≡ v x
-  set_on_one x s l p = (λ i. every 256 (λ h. not (p.members h i) || v h)) ∙ on_among 256 v (x ∷ []) (l, tt) ∙ and_true (v x)
-    where
-      and_true : (b : Bool) → (b && true) ≡ b
-      and_true true = refl
-      and_true false = refl
+  set_on_one x s l p = (λ i. every 256 (λ h. not (p.members h i) || v h)) ∙ on_among 256 v (x ∷ []) (l, tt) ∙ and-true (v x)
 
   bit_weight : (b : Bool) (i : ℕ) → cond b (2 ^ i) 0 < 2 ^ suc i
   bit_weight true i = pow-lt {i = i} {j = suc i} (omega arith)
@@ -131,9 +109,12 @@ module _ (v : ℕ → Bool) where
   place_value : (b : Bool) (i w : ℕ) → bit_xor (cond b (2 ^ i) 0) (w * 2 ^ suc i) ≡ (cond b 1 0 + 2 * w) * 2 ^ i
   place_value b i w = xor_comm (cond b (2 ^ i) 0) (w * 2 ^ suc i) ∙ xor_shifted w (suc i) (cond b (2 ^ i) 0) (bit_weight b i) ∙ sum b
     where
+      twice : 2 ^ suc i ≡ 2 ^ i * 2
+      twice = omega arith
+
       sum : (b : Bool) → w * 2 ^ suc i + cond b (2 ^ i) 0 ≡ (cond b 1 0 + 2 * w) * 2 ^ i
-      sum true = ap (λ x. w * x + 2 ^ i) (twice i) ∙ odd_sum w (2 ^ i)
-      sum false = ap (λ x. w * x + 0) (twice i) ∙ even_sum w (2 ^ i)
+      sum true = rw twice (grind arith)
+      sum false = rw twice (grind arith)
 
   pub value_at_outs : (i : ℕ) (xs : List ℕ) (ts : List (Term NetSet)) → Below 256 xs → OutTerms i xs ts → value_under v ts ≡ word (map v xs) * 2 ^ i
   value_at_outs i [] [] b w = sym (zero-mul (2 ^ i))

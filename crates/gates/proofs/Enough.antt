@@ -1,5 +1,6 @@
 -- The working always ends, and some number of rows suffices. Assumes nothing.
-use Rattle.std.proofs.Common.{◌≡◌, ℕ, zero, suc, ◌+◌, ◌-◌, ◌<◌, ◌≤◌, Bool, true, false, ◌||◌, eqb, ◌⊎◌, List, [], ◌∷◌, length, get_or, sym, refl, ap, ◌∙◌, inl, inr, ⊎_elim, not-suc-le-zero, arith}
+use Rattle.std.proofs.Common.{◌≡◌, ℕ, zero, suc, ◌+◌, ◌-◌, ◌<◌, ◌≤◌, false, ◌||◌, eqb, ◌⊎◌, List, [], ◌∷◌, length, get_or, sym, refl, ap, ◌∙◌, inl, inr, ⊎_elim, not-suc-le-zero, arith}
+use Rattle.std.proofs.Math.Bool.{or-false}
 use Rattle.std.proofs.lemmas.Bool.{cases_Bool, cases_lt, cases_eq}
 use Rattle.terms.specs.Terms.{added}
 use Rattle.terms.specs.Nets.{net_model}
@@ -16,13 +17,13 @@ use Rattle.gates.specs.Tails.{Joined, Joins, each}
 use Rattle.gates.proofs.Kept.{AllBelow}
 use Rattle.terms.proofs.Members.{laws_of_sets, never}
 use Rattle.terms.proofs.Changes.{single, single_net, taken_out}
-use Rattle.gates.proofs.Unions.{or_assoc, joined_one}
+use Rattle.gates.proofs.Unions.{or_once, joined_one}
 use Rattle.netlist.proofs.Formed.{driven_reads, few_nets}
 use Rattle.gates.proofs.Ends.{tail_below, sets_more}
 use Rattle.terms.proofs.Additions.{adding_on, adding_more}
 use Rattle.terms.proofs.Sole.{sums}
 use Rattle.gates.proofs.Once.{reduces_more}
-use Rattle.gates.proofs.Falls.{height, joins_tail, turn_terms, turn_falls}
+use Rattle.gates.proofs.Falls.{height, joins_tail, turned}
 use Rattle.gates.proofs.Outs.{out_terms, starts, goes_on, stops_there}
 
 -- ---- sets by their nets
@@ -30,16 +31,12 @@ abbrev join : NetSet → List ℕ → NetSet
 join s [] = s
 join s (x ∷ xs) = join (net_model.times s (single x)) xs
 
-or_none : (b : Bool) → b ≡ (b || false)
-or_none true = refl
-or_none false = refl
-
 joined_list : (s : NetSet) (xs : List ℕ) → Own s → Below 256 xs → Joined s xs (join s xs)
-joined_list s [] o b = record { own = o; members = λ h. or_none (holds s h) }
+joined_list s [] o b = record { own = o; members = λ h. sym (or-false (holds s h)) }
 joined_list s (x ∷ xs) o b =
     let p = joined_one s (single x) x o (single_net x b.0) in
     let q = joined_list (net_model.times s (single x)) xs p.own b.1 in
-    record { own = q.own; members = λ h. q.members h ∙ ap (λ y. y || among h xs) (p.members h) ∙ or_assoc (holds s h) (eqb h x) (among h xs) }
+    record { own = q.own; members = λ h. q.members h ∙ ap (λ y. y || among h xs) (p.members h) ∙ or_once (holds s h) (eqb h x) (among h xs) }
 
 abbrev joins : NetSet → List (List ℕ) → List NetSet
 joins s [] = []
@@ -108,9 +105,9 @@ enough c w (suc n) (t ∷ rest) r l =
       | on g adds top low tl ↦
           let next = sums adds rest in
           let one : adding net_model (wanted adds rest) adds rest ≡ done next = adding_all (wanted adds rest) adds rest (omega arith) in
-          let terms : TermsOf c next = turn_terms c w (wanted adds rest) t (t ∷ rest) rest adds next g refl top low tl r one in
-          let falls : height next < height (t ∷ rest) = turn_falls c w (wanted adds rest) t (t ∷ rest) rest adds next g refl top low tl r one in
-          let more = enough c w n next terms (omega arith) in
+          let turn = turned c w (wanted adds rest) t rest adds g top low tl r (done next) one in
+          let falls = turn.1 in
+          let more = enough c w n next turn.0 (omega arith) in
           let cap = wanted adds rest + more.0 in (
             cap,
             more.1,
@@ -153,10 +150,10 @@ ends c w cap (suc n) (t ∷ rest) r l =
       | on g adds top low tl ↦
           elim (adds_how cap adds rest) [
             | fits next one ↦
-                let terms : TermsOf c next = turn_terms c w cap t (t ∷ rest) rest adds next g refl top low tl r one in
-                let falls : height next < height (t ∷ rest) = turn_falls c w cap t (t ∷ rest) rest adds next g refl top low tl r one in
-                let more = ends c w cap n next terms (omega arith) in
-                (more.0, step t rest adds next g more.0 top low tl one more.1)
+                let turn = turned c w cap t rest adds g top low tl r (done next) one in
+                let falls = turn.1 in
+                let more = ends c w cap n next turn.0 (omega arith) in
+                (more.0, turn.2 more.0 more.1)
             | fails us f ↦ (full us, stops t rest adds us g top low tl f)
           ]
     ]

@@ -9,13 +9,15 @@ use Rattle.terms.specs.declared.table.TermTable.{TermTable}
 use Rattle.terms.specs.declared.nets.NetSet.{NetSet}
 use Rattle.terms.proofs.Laws.{added_under}
 use Rattle.terms.specs.BothKinds.{net_laws}
+use Rattle.netlist.specs.declared.gate.Gate.{Gate}
 use Rattle.netlist.specs.declared.gate.Gate.TheVariants.{Zero}
 use Rattle.netlist.specs.Circuits.{Circuit, WellFormed, inputs}
 use Rattle.netlist.specs.Meaning.{tail}
-use Rattle.terms.specs.Sets.{holds, among, Own, Within, Top}
+use Rattle.terms.specs.Sets.{holds, among, Own, Within, Without, Top}
 use Rattle.terms.specs.Additions.{Ended, done, full, adding}
 use Rattle.gates.specs.Reductions.{TailTerms, Reduces, empty, bits, stops, step}
 use Rattle.gates.specs.Forms.{TermsOf}
+use Rattle.gates.specs.Turns.{Turn}
 use Rattle.gates.specs.Tails.{Joins, each}
 use Rattle.terms.proofs.Additions.{TermsAll, adding_keeps}
 use Rattle.gates.proofs.Kept.{AllBelow}
@@ -53,24 +55,16 @@ joins_tail code s x g m (xs ∷ xss) [] j = absurd j
 joins_tail code s x g m (xs ∷ xss) (u ∷ us) j =
     (refl, record { own = j.0.own; members = λ h. j.0.members h ∙ ap (λ b. b || among h xs) (m h) }, joins_tail code s x g m xss us j.1)
 
--- what taking the leading term off tells, where it is known
-pub led : (r : Option (Term NetSet)) (t t' : TermTable NetSet) (lead : Term NetSet) (rest : List (Term NetSet))
-    → elim r as (λ _. Type 0) [ Some x ↦ Off net_model x t t' | None ↦ (live t ≡ []) × (t'.rows.now ≡ t.rows.now) × (t'.len ≡ t.len) ]
-    → live t ≡ lead ∷ rest → (live t ≡ lead ∷ live t') × (capacity t' ≡ capacity t)
-led (Some x) t t' lead rest o e =
-    let f = sym e ∙ o.terms in
-    let g : rest ≡ live t' = cc in
-    (e ∙ ap (λ xs. lead ∷ xs) g, o.room)
-led None t t' lead rest o e = absurd (let f = sym e ∙ o.0 in let z : ◌≡◌ {A = ℕ} 0 1 = cc in omega arith)
+-- where one turn leads a working that is at ts
+abbrev pub Turned : Circuit → ℕ → List (Term NetSet) → Ended NetSet → Type 0
+Turned c cap ts (done us) = TermsOf c us × (height us < height ts) × ((e : Ended NetSet) → Reduces c cap us e → Reduces c cap ts e)
+Turned c cap ts (full us) = Reduces c cap ts (full us)
 
--- one turn: ts is led by lead, which holds gate net g; adds are the terms of the tail
-module _ (c : Circuit) (w : WellFormed c) (cap : ℕ) (lead : Term NetSet) (ts rest adds ts'' : List (Term NetSet)) (g : ℕ) (first : ts ≡ lead ∷ rest) (top : Top lead.mono g) (low : inputs c ≤ g)
-    (tl : TailTerms lead.code lead.mono g (tail (get_or c.gates (g - inputs c) Zero)) adds) (r : TermsOf c ts) where
-  led_terms : TermsOf c (lead ∷ rest)
-  led_terms = subst (TermsOf c) first r
-
+-- the leading term holds gate net g, and adds are the terms of the gate's tail
+module _ (c : Circuit) (w : WellFormed c) (cap : ℕ) (lead : Term NetSet) (rest adds : List (Term NetSet)) (g : ℕ) (top : Top lead.mono g) (low : inputs c ≤ g)
+    (tl : TailTerms lead.code lead.mono g (tail (get_or c.gates (g - inputs c) Zero)) adds) (r : TermsOf c (lead ∷ rest)) where
   gate_high : g < inputs c + length c.gates
-  gate_high = led_terms.driven.0 g top.has
+  gate_high = r.driven.0 g top.has
 
   reads : AllBelow g (tail (get_or c.gates (g - inputs c) Zero))
   reads =
@@ -81,28 +75,51 @@ module _ (c : Circuit) (w : WellFormed c) (cap : ℕ) (lead : Term NetSet) (ts r
       subst (λ n. AllBelow n (tail gate)) at (tail_below gate (inputs c + (g - inputs c)) (driven_reads c.gates (inputs c) (g - inputs c) w.driven j))
 
   come : TermsAll (Comes c.width g) adds
-  come = tail_comes c.width lead.code lead.mono g led_terms.codes.0 top (tail (get_or c.gates (g - inputs c) Zero)) adds reads tl
+  come = tail_comes c.width lead.code lead.mono g r.codes.0 top (tail (get_or c.gates (g - inputs c) Zero)) adds reads tl
 
-  pub turn_terms : adding net_model cap adds rest ≡ done ts'' → TermsOf c ts''
-  turn_terms don =
+  turn_terms : (us : List (Term NetSet)) → adding net_model cap adds rest ≡ done us → TermsOf c us
+  turn_terms us don =
       let h = gate_high in
-      adding_terms c cap g (omega arith) adds rest ts'' come
-      (record { own = led_terms.own.1; falling = led_terms.falling.1; nonzero = led_terms.nonzero.1; driven = led_terms.driven.1; codes = led_terms.codes.1 }) don
+      adding_terms c cap g (omega arith) adds rest us come
+      (record { own = r.own.1; falling = r.falling.1; nonzero = r.nonzero.1; driven = r.driven.1; codes = r.codes.1 }) don
 
-  pub turn_falls : adding net_model cap adds rest ≡ done ts'' → height ts'' < height ts
-  turn_falls don =
-      let o = led_terms.own.0 in
-      let u : Under net_model lead.mono ts'' =
+  turn_under : (us : List (Term NetSet)) → adding net_model cap adds rest ≡ done us → Under net_model lead.mono us
+  turn_under us don =
+      let o = r.own.0 in
       adding_keeps net_model cap (Comes c.width g) (Under net_model lead.mono)
       (λ t xs q v. added_under net_model net_laws t.code t.mono lead.mono (below_less lead.mono t.mono g o q.0 top q.1) xs v)
-      adds rest ts'' come led_terms.falling.0 don in
-      subst (λ xs. height ts'' < height xs) (sym first) (height_under lead.mono o ts'' (turn_terms don).own u)
+      adds rest us come r.falling.0 don
 
-  pub turn_on : (e : Ended NetSet) → adding net_model cap adds rest ≡ done ts'' → Reduces c cap ts'' e → Reduces c cap ts e
-  turn_on e don n = subst (λ xs. Reduces c cap xs e) (sym first) (step lead rest adds ts'' g e top low tl don n)
+  pub turned : (e : Ended NetSet) → adding net_model cap adds rest ≡ e → Turned c cap (lead ∷ rest) e
+  turned (done us) don =
+      let n = turn_terms us don in
+      (n, height_under lead.mono r.own.0 us n.own (turn_under us don), λ e m. step lead rest adds us g e top low tl don m)
+  turned (full us) f = stops lead rest adds us g top low tl f
 
-  pub turn_stops : adding net_model cap adds rest ≡ full ts'' → Reduces c cap ts (full ts'')
-  turn_stops f = subst (λ xs. Reduces c cap xs (full ts'')) (sym first) (stops lead rest adds ts'' g top low tl f)
+-- ---- on a table
+-- what taking the leading term off tells, where it is known
+led : (r : Option (Term NetSet)) (t t' : TermTable NetSet) (lead : Term NetSet) (rest : List (Term NetSet))
+    → elim r as (λ _. Type 0) [ Some x ↦ Off net_model x t t' | None ↦ (live t ≡ []) × (t'.rows.now ≡ t.rows.now) × (t'.len ≡ t.len) ]
+    → live t ≡ lead ∷ rest → (live t ≡ lead ∷ live t') × (capacity t' ≡ capacity t)
+led (Some x) t t' lead rest o e =
+    let f = sym e ∙ o.terms in
+    let g : rest ≡ live t' = cc in
+    (e ∙ ap (λ xs. lead ∷ xs) g, o.room)
+led None t t' lead rest o e = absurd (let f = sym e ∙ o.0 in let z : ◌≡◌ {A = ℕ} 0 1 = cc in omega arith)
+
+-- the leading term of t is taken off, which leaves t', and the sets us of the tail are added
+pub table_turned : (c : Circuit) → WellFormed c → (cap : ℕ) (t t' : TermTable NetSet) (lead : Term NetSet) (g : ℕ) (gate : Gate) → Turn c (live t) lead g gate → TermsOf c (live t) → capacity t ≡ cap
+    → (r : Option (Term NetSet)) → elim r as (λ _. Type 0) [ Some x ↦ Off net_model x t t' | None ↦ (live t ≡ []) × (t'.rows.now ≡ t.rows.now) × (t'.len ≡ t.len) ]
+    → (x : NetSet) → Without lead.mono g x → (us : List NetSet) → Joins x (tail gate) us → (e : Ended NetSet) → adding net_model (capacity t') (each lead.code us) (live t') ≡ e
+    → (capacity t' ≡ cap) × Turned c cap (live t) e
+table_turned c w cap t t' lead g gate n terms room r o x m us j e a =
+    let off = led r t t' lead n.leads.0 o n.leads.1 in
+    let same : capacity t' ≡ cap = off.1 ∙ room in
+    let tl = joins_tail lead.code lead.mono x g m.members (tail (get_or c.gates (g - inputs c) Zero)) us (subst (λ y. Joins x (tail y) us) n.driver.2 j) in (
+      same,
+      subst (λ ts. Turned c cap ts e) (sym off.0)
+          (turned c w cap lead (live t') (each lead.code us) g n.top n.driver.0 tl (subst (TermsOf c) off.0 terms) e (subst (λ k. adding net_model k (each lead.code us) (live t') ≡ e) same a)),
+    )
 
 -- the ends
 pub ends_bits : (c : Circuit) (cap : ℕ) (ts rest : List (Term NetSet)) (lead : Term NetSet) → ts ≡ lead ∷ rest → Within (inputs c) lead.mono → Reduces c cap ts (done ts)

@@ -1,5 +1,6 @@
 -- Each step of the working keeps the value of the terms. Assumes nothing.
-use Rattle.std.proofs.Common.{◌≡◌, ℕ, ◌<◌, Bool, true, false, cond, not, ◌&&◌, ◌||◌, eqb, List, [], ◌∷◌, sym, refl, ap, ◌∙◌, ap₂}
+use Rattle.std.proofs.Common.{◌≡◌, ℕ, ◌<◌, Bool, true, cond, not, ◌&&◌, ◌||◌, eqb, List, [], ◌∷◌, sym, ap, ◌∙◌, ap₂}
+use Rattle.std.proofs.Math.Bool.{and-false}
 use lib.Bits.{bit_xor, xor_zero_l}
 use Rattle.terms.specs.Terms.{added}
 use Rattle.terms.specs.Nets.{net_model}
@@ -43,14 +44,10 @@ module _ (v : ℕ → Bool) where
   pub set_on_top : (s : NetSet) (g : ℕ) → g < 256 → holds s g ≡ true → set_on v s ≡ (others s g && v g)
   set_on_top s g l e = on_split 256 v (holds s) g l e
 
-  and_false : (b : Bool) → (b && false) ≡ false
-  and_false true = refl
-  and_false false = refl
-
   -- the tail's terms have the code as their value where the other nets have bit one, and the tail's sum is one
   pub value_at_tail : (c : ℕ) (s : NetSet) (g : ℕ) (us : List (List ℕ)) (adds : List (Term NetSet)) → TailTerms c s g us adds → AllBelow 256 us
       → value_under v adds ≡ cond (others s g && parity v us) c 0
-  value_at_tail c s g [] [] h b = ap (λ x. cond x c 0) (sym (and_false (others s g)))
+  value_at_tail c s g [] [] h b = ap (λ x. cond x c 0) (sym (and-false (others s g)))
   value_at_tail c s g [] (t ∷ adds) h b = absurd h
   value_at_tail c s g (xs ∷ us) [] h b = absurd h
   value_at_tail c s g (xs ∷ us) (t ∷ adds) h b =

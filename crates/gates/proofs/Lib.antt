@@ -7,3 +7,4 @@ pub mod Falls
 pub mod Outs
 pub mod Enough
 pub mod Sole
+pub mod Found

@@ -1,6 +1,7 @@
 -- One end for each circuit and number of rows; and more rows change nothing. Assumes nothing.
-use Rattle.std.proofs.Common.{◌≡◌, ℕ, suc, ◌-◌, ◌<◌, ◌≤◌, true, false, List, [], ◌∷◌, get_or, sym, refl, ap, ◌∙◌, subst, ap₂, ⊎_elim, arith}
-use Rattle.std.proofs.lemmas.Bool.{cases_order, true≢false}
+use Rattle.std.proofs.Common.{◌≡◌, ℕ, suc, ◌-◌, ◌<◌, ◌≤◌, true, List, [], ◌∷◌, get_or, sym, refl, ap, ◌∙◌, subst, ap₂, ⊎_elim, arith}
+use Rattle.terms.proofs.Members.{never}
+use Rattle.std.proofs.lemmas.Bool.{cases_order}
 use Rattle.terms.specs.Terms.{term}
 use Rattle.terms.specs.Nets.{net_model}
 use Rattle.terms.specs.declared.Term.{Term}
@@ -13,9 +14,6 @@ use Rattle.terms.specs.Additions.{Ended, done, full, adding}
 use Rattle.gates.specs.Reductions.{OutTerms, TailTerms, Reduces, empty, bits, stops, step, Worked, goes}
 use Rattle.gates.specs.Forms.{OneEnd, MoreRows}
 use Rattle.terms.proofs.Additions.{done_same, full_done, adding_more}
-
-never : {A : Type 0} → true ≡ false → A
-never e = absurd (true≢false e)
 
 pub top_same : (s : NetSet) (g h : ℕ) → Top s g → Top s h → g ≡ h
 top_same s g h p q =

@@ -1,6 +1,7 @@
 -- The output terms, one after another. Assumes nothing.
-use Rattle.std.proofs.Common.{◌≡◌, ℕ, zero, suc, ◌+◌, ◌^◌, ◌<◌, List, [], ◌∷◌, length, get_or, drop, sym, refl, ap, ◌∙◌, ap₂, not-suc-le-zero, arith}
+use Rattle.std.proofs.Common.{◌≡◌, ℕ, zero, suc, ◌+◌, ◌*◌, ◌%◌, ◌^◌, ◌<◌, List, [], ◌∷◌, length, get_or, drop, sym, refl, ap, ◌∙◌, ap₂, subst, not-suc-le-zero, arith}
 use Rattle.std.proofs.lemmas.List.{at_drop_more}
+use Rattle.std.proofs.lemmas.Nat.{one_shl}
 use Rattle.terms.specs.Terms.{term}
 use Rattle.terms.specs.Nets.{net_model}
 use Rattle.terms.specs.Sets.{SetOf}
@@ -42,19 +43,25 @@ out_at i (suc j) (x ∷ xs) (t ∷ ts) d u w l p =
     let e : suc i + j ≡ i + suc j = omega arith in
     out_at (suc i) j xs ts d u w.2 (omega arith) p ∙ ap (λ n. term (2 ^ n) u) e
 
--- what is left to add, with the next term before it
-pub outs_more : (cap : ℕ) (os : List ℕ) (outs : List (Term NetSet)) (i code : ℕ) (u : NetSet) (ts : List (Term NetSet)) → OutTerms 0 os outs → i < length os → code ≡ 2 ^ i → SetOf (get_or os i 0 ∷ []) u
-    → adding net_model cap (drop i outs) ts ≡ adding net_model cap (term code u ∷ drop (i + 1) outs) ts
-outs_more cap os outs i code u ts w l e p =
-    let d = term code u in
-    let long = outs_long 0 os outs w in
+-- what is left to add, with the next term before it, as the program makes it
+pub outs_more : (c : Circuit) → WellFormed c → (cap i x : ℕ) (u : NetSet) (outs ts : List (Term NetSet)) → OutTerms 0 c.outs outs → i < c.width → x ≡ get_or c.outs i 0 → SetOf (x ∷ []) u
+    → adding net_model cap (drop i outs) ts ≡ adding net_model cap (term ((1 * 2 ^ i) % 2 ^ 16) u ∷ drop (i + 1) outs) ts
+outs_more c w cap i x u outs ts o l e p =
+    let code = (1 * 2 ^ i) % 2 ^ 16 in
+    let shifted : code ≡ 2 ^ i = one_shl i 16 (omega (arith, w.range.few_bits)) in
+    let long = outs_long 0 c.outs outs o in
     let n : 0 + i ≡ i = omega arith in
-    at_drop_more (λ xs. adding net_model cap xs ts) outs i d (omega arith)
-    ∙ ap (λ x. adding net_model cap (x ∷ drop (i + 1) outs) ts) (out_at 0 i os outs d u w l p ∙ ap (λ c. term c u) (ap (λ k. 2 ^ k) n ∙ sym e))
+    at_drop_more (λ xs. adding net_model cap xs ts) outs i (term code u) (omega (arith, w.as_wide))
+    ∙ ap (λ t. adding net_model cap (t ∷ drop (i + 1) outs) ts)
+    (out_at 0 i c.outs outs (term code u) u o (omega (arith, w.as_wide)) (subst (λ y. SetOf (y ∷ []) u) e p) ∙ ap (λ b. term b u) (ap (λ k. 2 ^ k) n ∙ sym shifted))
 
 -- ---- the start of the working
 pub below_few : (c : Circuit) → WellFormed c → Below 256 c.outs
 below_few c w = below_more (nets c) 256 (few_nets c w) c.outs w.outputs
+
+pub from_empty : (c : Circuit) → WellFormed c → (cap : ℕ) (ts : List (Term NetSet)) (e : Ended NetSet) → ts ≡ [] → ((outs : List (Term NetSet)) → OutTerms 0 c.outs outs → adding net_model cap outs ts ≡ e)
+    → adding net_model cap (out_terms 0 c.outs) [] ≡ e
+from_empty c w cap ts e q f = subst (λ xs. adding net_model cap (out_terms 0 c.outs) xs ≡ e) q (f (out_terms 0 c.outs) (outs_are 0 c.outs (below_few c w)))
 
 pub starts : (c : Circuit) (cap : ℕ) (us : List (Term NetSet)) → WellFormed c → adding net_model cap (out_terms 0 c.outs) [] ≡ done us → TermsOf c us
 starts c cap us w f =

@@ -24,6 +24,11 @@ pub data Refused (c : Circuit) (cap : ℕ) : Fault → Type 0 where
   no_row : (us : List (Term NetSet)) → Worked c cap (full us) → OnlyEnd c cap (full us) → Refused c cap BitTableFull
   too_many : (us : List (Term NetSet)) → Worked c cap (done us) → OnlyEnd c cap (done us) → 256 < length us → Refused c cap TooManyBitTerms
 
+-- how many terms the bit form us has that stands in the table, or why none is answered
+abbrev pub Reached : Circuit → ℕ → Result ℕ Fault → List (Term NetSet) → Type 0
+Reached c cap (Ok n) us = Found c cap us × (n ≡ length us)
+Reached c cap (Err e) us = Refused c cap e
+
 -- the answer for a circuit and cap lent rows, and the rows then: the terms of the bit form and zero rows after them, or zero rows only
 abbrev pub Answered : Circuit → ℕ → Result ℕ Fault → List (Term NetSet) → Type 0
 Answered c cap (Ok n) rows = (us : List (Term NetSet)) × Found c cap us × (n ≡ length us) × (rows ≡ padded net_model cap us)

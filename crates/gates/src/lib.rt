@@ -21,13 +21,6 @@ use work::find_form;
 pub fn bit_form(net: &Netlist, rows: &mut [Term<NetSet>]) -> Result<usize, Fault>
     ensures { Answered (circuit net.now) (length rows.old) result rows.new }
 {
-    form_in(net, rows)
-}
-
-// The same, in a term table that stands on the rows.
-fn form_in(net: &Netlist, rows: &mut [Term<NetSet>]) -> Result<usize, Fault>
-    ensures { Answered (circuit net.now) (length rows.old) result rows.new }
-{
     let mut table = TermTable::new(&Nets, rows);
     find_form(net, &mut table)
 }

@@ -1,14 +1,14 @@
-use Rattle.std.proofs.Common.{sym}
-use Rattle.forms.proofs.Rows.{row_past, row_here, row_below}
+use Rattle.std.proofs.Common.{rules, ltb-true}
+use Rattle.forms.proofs.Rows.{row_here, row_past, row_below}
 use Rattle.forms.proofs.differences.row_of.Goals as goal
-use Rattle.forms.proofs.differences.row_of.Goals.{else-i-terms-via-then-i-terms+else-not-less, else-i-terms-via-else-i-terms}
+use Rattle.forms.proofs.differences.row_of.Goals.{in_default-via-then-terms-lt1, in_default-via-in-len1-up+else-not-less}
 
-pub returns-then-not-less : goal.returns-then-not-less
-returns-then-not-less c = row_here c.args.terms.now c.args.i c.requires.falling _ c.if-i-terms.true c.args.set c.requires.above (sym c.if-not-less.ensures)
+pub returns-in-len1-up : goal.returns-in-len1-up
+returns-in-len1-up c = search (row_here, rules, c.if-not-less.ensures)
 
-pub returns-else-i-terms : goal.returns-else-i-terms
-returns-else-i-terms c =
-    elim c.else-i-terms.branch [
-      | else-i-terms-via-then-i-terms+else-not-less w ↦ row_below c.args.terms.now c.args.i c.requires.falling _ w.if-i-terms.true c.args.set (sym w.if-not-less.ensures)
-      | else-i-terms-via-else-i-terms w ↦ row_past c.args.terms.now c.args.i c.requires.falling c.args.set c.requires.within w.if-i-terms.false
+pub returns-in_default : goal.returns-in_default
+returns-in_default c =
+    elim c.in_default.branch [
+      | in_default-via-then-terms-lt1 w ↦ search (row_past, rules, ltb-true)
+      | in_default-via-in-len1-up+else-not-less w ↦ search (row_below, rules, w.if-not-less.ensures)
     ]

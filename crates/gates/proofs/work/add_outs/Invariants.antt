@@ -1,6 +1,6 @@
 use Rattle.std.proofs.Common.{◌≡◌, List, drop}
 use Rattle.terms.specs.Nets.{net_model}
-use Rattle.terms.specs.Lent.{live, capacity, Sound}
+use Rattle.terms.specs.Lent.{live, capacity, Kept}
 use Rattle.terms.specs.Additions.{adding}
 use Rattle.terms.specs.declared.Term.{Term}
 use Rattle.terms.specs.declared.nets.NetSet.{NetSet}
@@ -11,5 +11,5 @@ use Rattle.gates.proofs.work.add_outs.Given as goal
 abbrev pub invariant-loop-i : goal.invariant-loop-i
 invariant-loop-i l =
     let cap = capacity l.initial.table in
-    Sound net_model l.table × (l.table.rows.ghost_name ≡ l.initial.table.rows.ghost_name) × (capacity l.table ≡ cap)
+    Kept net_model l.initial.table l.table
     × ((outs : List (Term NetSet)) → OutTerms 0 (circuit l.net).outs outs → adding net_model cap (drop l.i outs) (live l.table) ≡ adding net_model cap outs (live l.initial.table))

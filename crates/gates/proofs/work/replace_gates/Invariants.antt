@@ -1,6 +1,5 @@
-use Rattle.std.proofs.Common.{◌≡◌}
 use Rattle.terms.specs.Nets.{net_model}
-use Rattle.terms.specs.Lent.{live, capacity, Sound}
+use Rattle.terms.specs.Lent.{live, capacity, Kept}
 use Rattle.terms.specs.declared.nets.NetSet.{NetSet}
 use Rattle.netlist.specs.Netlists.{circuit}
 use Rattle.terms.specs.Additions.{Ended}
@@ -13,8 +12,7 @@ abbrev pub invariant-loop-lead : goal.invariant-loop-lead
 invariant-loop-lead l =
     let c = circuit l.net in
     let cap = capacity l.initial.table in
-    Sound net_model l.table × (l.table.rows.ghost_name ≡ l.initial.table.rows.ghost_name) × (capacity l.table ≡ cap)
-    × TermsOf c (live l.table) × ((e : Ended NetSet) → Reduces c cap (live l.table) e → Reduces c cap (live l.initial.table) e)
+    Kept net_model l.initial.table l.table × TermsOf c (live l.table) × ((e : Ended NetSet) → Reduces c cap (live l.table) e → Reduces c cap (live l.initial.table) e)
 
 abbrev pub decreases-loop-lead : goal.decreases-loop-lead
 decreases-loop-lead l = height (live l.table)
