@@ -5,7 +5,7 @@ ghost use Rattle.lines.specs.declared.Head.TheVariants.{Words};
 ghost use Rattle.job.specs.Jobs.{Parts, BadJob, default_polynomial, NoDefault};
 
 use fault::Fault;
-use lines::{Head, cut_line, cut_tail};
+use lines::{cut_sizes, cut_tail};
 
 // The most bytes that a job has.
 pub const LIMIT: usize = 16384;
@@ -23,18 +23,15 @@ pub fn take_apart(job: &[u8]) -> Result<Job<'_>, Fault>
     if job.len() > LIMIT {
         return Err(Fault::JobTooLong);
     }
-    let [b'f', b'i', b'e', b'l', b'd', tail @ ..] = job else {
+    let Some(tail) = job.strip_prefix(b"field") else {
         return Ok(Job {
             polynomial: None,
             netlist: job,
         });
     };
-    let Some((row, netlist)) = cut_tail(tail, 1) else {
-        return Err(Fault::WrongForm(1));
-    };
-    let polynomial = row.at[0];
+    let (numbers, netlist) = cut_tail(tail, 1).ok_or(Fault::WrongForm(1))?;
     Ok(Job {
-        polynomial: Some(polynomial),
+        polynomial: Some(numbers.as_slice()[0]),
         netlist,
     })
 }
@@ -43,14 +40,7 @@ pub fn take_apart(job: &[u8]) -> Result<Job<'_>, Fault>
 pub fn sizes(netlist: &[u8]) -> Option<(u16, u16)>
     ensures { MatchOption result ((n k : ℕ) (rest : List ℕ) → Line 0 netlist.now Words (n ∷ (k ∷ [])) rest → ⊥) (λ x. (rest : List ℕ) × Line 0 netlist.now Words (x.0 ∷ (x.1 ∷ [])) rest) }
 {
-    let Some((head, row, _)) = cut_line(netlist, 0) else {
-        return None;
-    };
-    let Head::Words = head else {
-        return None;
-    };
-    let words = row.at[0];
-    let width = row.at[1];
+    let (words, width, _) = cut_sizes(netlist)?;
     Some((words, width))
 }
 

@@ -39,14 +39,10 @@ same_line {k} {s} {h} {g} {vs} {ws} {r} {t} l m =
     let p = same_numbers vs ws r t n l.small m.small e in
     record { same_word = w; same_list = p.0; same_rest = p.1 }
 
--- a line of printed bytes, and printed bytes of a line
+-- a line of printed bytes
 pub made_line : {k : ℕ} {s : List ℕ} (h : Head) (vs r : List ℕ) → places k h ≤ 8 → length vs ≡ places k h → Small vs → s ≡ line h vs ++ r → Line k s h vs r
 made_line h vs r f n a e =
     record { few = f; many = n; small = a; bytes = e ∙ append_assoc (keyword h) (numbers vs ++ (10 ∷ [])) r ∙ ap (λ x. keyword h ++ x) (append_assoc (numbers vs) (10 ∷ []) r) }
-
-pub line_bytes : {k : ℕ} {s : List ℕ} {h : Head} {vs rest : List ℕ} → Line k s h vs rest → s ≡ line h vs ++ rest
-line_bytes {k} {s} {h} {vs} {rest} l =
-    l.bytes ∙ ap (λ x. keyword h ++ x) (sym (append_assoc (numbers vs) (10 ∷ []) rest)) ∙ sym (append_assoc (keyword h) (numbers vs ++ (10 ∷ [])) rest)
 
 -- a line is not empty
 op_starts : (o : Op) (xs : List ℕ) → 1 ≤ length (keyword (head.Gate o) ++ xs)

@@ -1,15 +1,15 @@
 -- What the invariant of a netlist in memory gives.
-use Rattle.std.proofs.Common.{◌≡◌, ℕ, zero, suc, ◌+◌, ◌-◌, ◌<◌, ◌≤◌, List, [], ◌∷◌, length, get_or, take, sym, refl, ap, ◌∙◌, subst, add-zero, mul-le-mul, arith, length-take}
+use Rattle.std.proofs.Common.{◌≡◌, ℕ, zero, suc, ◌+◌, ◌-◌, ◌<◌, ◌≤◌, List, [], ◌∷◌, length, get_or, Bor, Option, Some, None, MatchOption, option_copied, sym, refl, subst, add-zero, mul-le-mul, arith}
+use Rattle.std.specs.List.{HoldsAt}
 use mathlib.Core.Logic.{∥∥₁_elim}
 use native.Mathlib.Nat.{ℕ_set}
 use native.Mathlib.Bridge.{le_prop}
-use Rattle.std.proofs.lemmas.List.{get_or-take, get_or-map, get_or_past, get_or_default, length-map}
-use Rattle.netlist.specs.declared.gate.Net.{Net}
+use Rattle.bounded.specs.Items.{items}
 use Rattle.netlist.specs.declared.gate.Gate.{Gate}
 use Rattle.netlist.specs.declared.gate.Gate.TheVariants.{Zero}
 use Rattle.netlist.specs.declared.circuit.Netlist.{Netlist}
-use Rattle.netlist.specs.Circuits.{Circuit, WellFormed, InRange, Driven, Below, inputs, nets, nets_of, net_numbers}
-use Rattle.netlist.specs.Netlists.{circuit}
+use Rattle.netlist.specs.Circuits.{Circuit, WellFormed, InRange, Driven, Below, inputs, nets, nets_of}
+use Rattle.netlist.specs.Netlists.{circuit, DriverIs}
 use Rattle.netlist.proofs.Runs.{few_inputs, driven_few}
 
 -- a circuit is well formed in one way only
@@ -58,58 +58,29 @@ driven_reads (g ∷ gs) d (suc j) h l =
     let e : d + 1 + j ≡ d + suc j = omega arith in
     subst (λ n. Below n (nets_of (get_or gs j Zero))) e (driven_reads gs (d + 1) j h.2 (omega arith))
 
-below_at : (d : ℕ) (vs : List ℕ) (i : ℕ) → i < length vs → Below d vs → get_or vs i 0 < d
-below_at d [] i l b = absurd (omega arith)
-below_at d (v ∷ vs) zero l b = b.0
-below_at d (v ∷ vs) (suc i) l b = below_at d vs i (omega arith) b.1
+low_at : (d : ℕ) (vs : List ℕ) (i : ℕ) → 0 < d → Below d vs → get_or vs i 0 < d
+low_at d [] i l b = l
+low_at d (v ∷ vs) zero l b = b.0
+low_at d (v ∷ vs) (suc i) l b = low_at d vs i l b.1
 
 module _ (t : Netlist) where
-  -- the array holds all the gates
-  pub many_gates : length (circuit t).gates ≡ t.count
-  many_gates =
+  pub few_places : inputs (circuit t) + length (items t.gates) ≤ 256
+  few_places = few_nets (circuit t) (formed t)
+
+  pub driver_is : (x : ℕ) (r : Option (Bor Gate)) → inputs (circuit t) ≤ x
+      → MatchOption r (length (items t.gates) ≤ x - inputs (circuit t)) (λ g. (x - inputs (circuit t) < length (items t.gates)) × HoldsAt (λ y. g.now ≡ y) (items t.gates) (x - inputs (circuit t)))
+      → DriverIs (circuit t) x (option_copied r)
+  driver_is x None low h = λ l u. omega arith
+  driver_is x (Some g) low h =
       let w = formed t in
-      let long = t.places in
-      let few = few_nets (circuit t) w in
-      let some = some_input (circuit t) w in
-      let cut = length-take t.count t.gates in
-      omega arith
-
-  pub all_nets : inputs (circuit t) + t.count ≡ nets (circuit t)
-  all_nets = let m = many_gates in omega arith
-
-  pub few_places : inputs (circuit t) + t.count ≤ 256
-  few_places = let m = all_nets in let few = few_nets (circuit t) (formed t) in omega arith
-
-  pub driver_is : (x : ℕ) (g d : Gate) → g ≡ get_or t.gates (x - inputs (circuit t)) d → inputs (circuit t) ≤ x → x - inputs (circuit t) < t.count
-      → (inputs (circuit t) ≤ x) × (x < nets (circuit t)) × (g ≡ get_or (circuit t).gates (x - inputs (circuit t)) Zero) × Below x (nets_of g)
-  driver_is x g d e low high =
-      let w = formed t in
-      let long = t.places in
       let j = x - inputs (circuit t) in
-      let m = many_gates in
-      let few = few_places in
-      let n = all_nets in
-      let there : j < length t.gates = omega arith in
-      let inside : j < length (circuit t).gates = omega arith in
-      let same = e ∙ get_or_default t.gates j d Zero there ∙ sym (get_or-take t.count t.gates j Zero high) in
       let sum : inputs (circuit t) + j ≡ x = omega arith in
-      (low, omega arith, same, subst (λ n. Below n (nets_of g)) sum (subst (λ y. Below (inputs (circuit t) + j) (nets_of y)) (sym same) (driven_reads (circuit t).gates (inputs (circuit t)) j w.driven inside)))
+      let own = driven_reads (circuit t).gates (inputs (circuit t)) j w.driven h.0 in
+      (low, omega (arith, h.0), h.1 Zero, subst (λ n. Below n (nets_of g.now)) sum (subst (λ y. Below (inputs (circuit t) + j) (nets_of y)) (sym (h.1 Zero)) own))
 
--- the output nets
-pub output_past : (t : Netlist) (i : ℕ) → t.width ≤ i → (0 ≡ get_or (circuit t).outs i 0) × (0 < nets (circuit t))
-output_past t i h =
-    let w = formed t in
-    let wide = w.as_wide in
-    let some = some_input (circuit t) w in
-    (sym (get_or_past (circuit t).outs i 0 (omega arith)), omega arith)
-
-pub output_at : (t : Netlist) (i : ℕ) (d : Net) → i < t.width → ((get_or t.outs.at i d).0 ≡ get_or (circuit t).outs i 0) × ((get_or t.outs.at i d).0 < nets (circuit t))
-output_at t i d h =
-    let w = formed t in
-    let wide = w.as_wide in
-    let there : i < length (circuit t).outs = omega arith in
-    let lens : length (net_numbers (take t.width t.outs.at)) ≡ length (take t.width t.outs.at) = length-map (take t.width t.outs.at) (λ n. n.0) in
-    let inside : i < length (take t.width t.outs.at) = omega arith in
-    let same : (get_or t.outs.at i d).0 ≡ get_or (circuit t).outs i 0 =
-    sym (get_or-map (λ n. n.0) (take t.width t.outs.at) i d 0 inside ∙ ap (λ n. n.0) (get_or-take t.width t.outs.at i d h)) in
-    (same, subst (λ v. v < nets (circuit t)) (sym same) (below_at (nets (circuit t)) (circuit t).outs i there w.outputs))
+  -- an output net is driven, and so is net 0
+  pub output_driven : (i : ℕ) → get_or (circuit t).outs i 0 < nets (circuit t)
+  output_driven i =
+      let w = formed t in
+      let some = some_input (circuit t) w in
+      low_at (nets (circuit t)) (circuit t).outs i (omega arith) w.outputs

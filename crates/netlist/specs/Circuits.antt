@@ -1,5 +1,5 @@
 -- Circuits of gates, the text that writes one down, and which are well formed. Assumes nothing.
-use Rattle.std.specs.Prelude.{◌≡◌, ℕ, ◌+◌, ◌*◌, ◌<◌, ◌≤◌, List, [], ◌∷◌, ◌++◌, map, length, take}
+use Rattle.std.specs.Prelude.{◌≡◌, ℕ, ◌+◌, ◌*◌, ◌<◌, ◌≤◌, List, [], ◌∷◌, ◌++◌, map, length}
 use Rattle.std.specs.List.{flat_map}
 use Rattle.lines.specs.declared.Op.{Op}
 use Rattle.lines.specs.declared.Op.TheVariants as op
@@ -87,7 +87,6 @@ pub record WellFormed (c : Circuit) : Type 0 where
 abbrev pub net_numbers : List Net → List ℕ
 net_numbers ns = map (λ x. x.0) ns
 
--- The circuit that a program's arrays hold: the first `count` gates, and an output net for each bit.
-abbrev pub circuit_of : ℕ → ℕ → ℕ → List Gate → List Net → Circuit
-circuit_of words width count gates outs =
-    record { words = words; width = width; gates = take count gates; outs = net_numbers (take width outs) }
+-- The circuit of these gates and output nets.
+abbrev pub circuit_of : ℕ → ℕ → List Gate → List Net → Circuit
+circuit_of words width gates outs = record { words = words; width = width; gates = gates; outs = net_numbers outs }

@@ -34,7 +34,7 @@ impl Netlist {
         ensures few { result ≤ 256 }
         ensures formed { WellFormed (circuit self.now) }
     {
-        self.inputs() + self.count
+        self.inputs() + self.gates.len()
     }
 
     // The gate that drives net `x`; none for an input's net and for a net that nothing drives.
@@ -45,10 +45,7 @@ impl Netlist {
         if x < first {
             return None;
         }
-        if x - first >= self.count {
-            return None;
-        }
-        Some(self.gates[x - first])
+        self.gates.as_slice().get(x - first).copied()
     }
 
     // The net of bit `i` of the output, and net 0 where a word has no bit `i`.
@@ -56,9 +53,6 @@ impl Netlist {
         ensures net { result.0 ≡ slice_index (circuit self.now).outs i }
         ensures driven { result.0 < nets (circuit self.now) }
     {
-        if i >= usize::from(self.width) {
-            return Net(0);
-        }
-        self.outs.at[i]
+        self.outs.as_slice().get(i).copied().unwrap_or(Net(0))
     }
 }

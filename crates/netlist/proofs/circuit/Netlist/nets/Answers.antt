@@ -1,14 +1,9 @@
 use Rattle.std.proofs.Common.{arith}
-use Rattle.netlist.proofs.Formed.{formed, few_nets, few_places, all_nets}
+use Rattle.netlist.proofs.Formed.{formed, few_places}
 use Rattle.netlist.proofs.circuit.Netlist.nets.Goals as goal
 
-pub overflow_add-result : goal.overflow_add-result
-overflow_add-result c =
-    let few = few_places c.args.self.now in
-    omega (arith, c.inputs.ensures)
+pub returns-clause-few : goal.returns-clause-few
+returns-clause-few c = omega (arith, few_places c.args.self.now)
 
-pub returns : goal.returns
-returns c =
-    let all = all_nets c.args.self.now in
-    let few = few_nets _ (formed c.args.self.now) in
-    record { number = omega (arith, c.inputs.ensures); few = omega (arith, c.inputs.ensures); formed = formed c.args.self.now }
+pub returns-clause-formed : goal.returns-clause-formed
+returns-clause-formed c = formed c.args.self.now
