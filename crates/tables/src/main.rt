@@ -8,6 +8,8 @@ use field::normal::Normal;
 use field::shift::Shift;
 use field::tower::Tower;
 
+use anyhow::anyhow;
+
 fn heading(rt: &HostRuntime, name: &str) -> anyhow::Result<()> {
     println!(rt; "== {name}")?;
     Ok(())
@@ -40,12 +42,16 @@ fn elements<F: Field>(rt: &HostRuntime, f: &F) -> anyhow::Result<()> {
         print!(rt; " {t}")?;
     }
     print!(rt; "\nduals")?;
-    let ds = duals(f);
-    for d in ds {
+    for d in duals(f) {
         print!(rt; " {d}")?;
     }
     rt.println("")?;
     Ok(())
+}
+
+// The field modulo p, where that is irreducible; a refusal ends the program.
+fn modulo(p: u16) -> anyhow::Result<Shift> {
+    Shift::new(p).map_err(|e| anyhow!("{e}"))
 }
 
 fn shift(rt: &HostRuntime, p: u16) -> anyhow::Result<()> {
@@ -64,9 +70,7 @@ fn shift(rt: &HostRuntime, p: u16) -> anyhow::Result<()> {
 
 // The multiplicative inverses modulo 283, as the AES standard's S-box uses them, and two of its worked products.
 fn aes(rt: &HostRuntime) -> anyhow::Result<()> {
-    let Ok(f) = Shift::new(283) else {
-        return Ok(());
-    };
+    let f = modulo(283)?;
     heading(rt, "AES")?;
     elements(rt, &f)?;
     let (a, b) = (f.mul(0x57, 0x83), f.mul(0x57, 0x13));
@@ -88,9 +92,7 @@ fn powers<F: Field>(rt: &HostRuntime, f: &F) -> anyhow::Result<()> {
 fn reed_solomon(rt: &HostRuntime) -> anyhow::Result<()> {
     heading(rt, "powers of 2 modulo 285")?;
     powers(rt, &Log)?;
-    let Ok(f) = Shift::new(285) else {
-        return Ok(());
-    };
+    let f = modulo(285)?;
     powers(rt, &f)?;
     elements(rt, &Log)
 }
@@ -118,10 +120,9 @@ fn tower<B: Field>(rt: &HostRuntime, b: &B, nu: u16, upper: u16) -> anyhow::Resu
 }
 
 fn towers(rt: &HostRuntime) -> anyhow::Result<()> {
-    if let Ok(f) = Shift::new(7) {
-        for nu in 0..5 {
-            tower(rt, &f, nu, 8)?;
-        }
+    let f = modulo(7)?;
+    for nu in 0..5 {
+        tower(rt, &f, nu, 8)?;
     }
     heading(rt, "towers over the normal basis")?;
     tower(rt, &Normal, 1, 4)?;

@@ -1,82 +1,70 @@
 // The tables of powers and logarithms of a shift field.
-ghost use Rattle.std.specs.Prelude.{◌≡◌, ℕ, ◌^◌, ◌<◌, ◌≤◌, T, length, slice_index};
-ghost use Rattle.algebra.specs.Poly.{Degree};
-ghost use Rattle.field.specs.Logged.{raised, base, Logged};
+ghost use Rattle.std.specs.Prelude.{◌≡◌, ℕ, ◌+◌, ◌<◌, ◌≤◌, T, IfSome, slice_index};
+ghost use Rattle.field.specs.Logged.{raised, code, Logged};
 
 use super::Tables;
-use crate::poly::times_x;
+use super::base::Base;
+use crate::poly::Modulus;
 
-// The powers of x + 1, or of x.
-fn powers_of(k: u32, p: u16, odd: bool) -> [u16; 512]
-    requires narrow { 2 ≤ k }
-    requires wide { k ≤ 8 }
-    requires degree { Degree k p }
-    ensures { (i : ℕ) → i < 512 → slice_index result i ≡ raised k p (base odd) i }
+// The first powers of a base.
+fn powers_of(m: Modulus, base: Base) -> [u16; 512]
+    ensures { (i : ℕ) → i < 512 → slice_index result i ≡ raised m.k m.p (code base) i }
 {
     let mut powers = [0; 512];
     let mut y = 1;
-    for i in 0..512usize {
-        powers[i] = y;
-        let z = times_x(k, p, y);
-        y = if odd { y ^ z } else { z };
+    for power in &mut powers {
+        *power = y;
+        y = base.times(m, y);
     }
     powers
 }
 
 // A place of each code among the first powers, where it has one.
-fn logs_of(powers: &[u16], order: usize) -> [u16; 256]
-    requires all { length powers.now ≡ 512 }
+fn logs_of(powers: &[u16; 512], order: u16) -> [u16; 256]
     requires codes { (i : ℕ) → i < 512 → slice_index powers.now i < 256 }
     requires small { order ≤ 256 }
     ensures { (a : ℕ) → slice_index result a < 256 }
 {
     let mut logs = [0; 256];
-    for i in 0..order {
-        logs[powers[i] as usize] = i as u16;
+    for (i, power) in (0..order).zip(powers) {
+        logs[usize::from(*power)] = i;
     }
     logs
 }
 
-// Whether each code but 0 is the power at its place.
-fn places_right(powers: &[u16], logs: &[u16], order: usize) -> bool
-    requires all { length powers.now ≡ 512 }
-    requires whole { length logs.now ≡ 256 }
-    requires places { (a : ℕ) → slice_index logs.now a < 256 }
-    requires small { order ≤ 256 }
-    ensures { T result → (a : ℕ) → 0 < a → a < order → slice_index powers.now (slice_index logs.now a) ≡ a }
-{
-    for a in 1..order {
-        if powers[logs[a] as usize] as usize != a {
-            return false;
-        }
+impl Tables {
+    // Whether each code but 0 is the power at its logarithm.
+    fn complete(&self, order: u16) -> bool
+        requires { order ≤ 256 }
+        ensures { T result → (a : ℕ) → 0 < a → a < order → slice_index self.now.powers (slice_index self.now.logs a) ≡ a }
+    {
+        (1..order).all(|a| self.powers[usize::from(self.logs[usize::from(a)])] == a)
     }
-    true
-}
 
-// The tables by the powers of x + 1, or of x.
-fn tables_by(k: u32, p: u16, odd: bool) -> Tables
-    requires narrow { 2 ≤ k }
-    requires wide { k ≤ 8 }
-    requires degree { Degree k p }
-    ensures { T result.sure → Logged k p result.powers result.logs }
-{
-    let order = 1 << k;
-    let powers = powers_of(k, p, odd);
-    let logs = logs_of(&powers, order);
-    let sure = places_right(&powers, &logs, order);
-    Tables { powers, logs, sure }
-}
-
-// The tables by the powers of x + 1, or else of x.
-pub(super) fn product_tables(k: u32, p: u16) -> Tables
-    requires narrow { 2 ≤ k }
-    requires wide { k ≤ 8 }
-    requires degree { Degree k p }
-    ensures { T result.sure → Logged k p result.powers result.logs }
-{
-    let by = tables_by(k, p, true);
-    if by.sure {
-        return by;
+    // The tables by the powers of a base, where these are all codes but 0.
+    fn by(m: Modulus, base: Base) -> Option<Tables>
+        ensures { IfSome result (λ t. Logged m.k m.p t.powers t.logs) }
+    {
+        let order = 1 << m.k;
+        let powers = powers_of(m, base);
+        let logs = logs_of(&powers, order);
+        Some(Tables { powers, logs }).filter(|t| t.complete(order))
     }
-    tables_by(k, p, false)
+
+    // The tables by the powers of x + 1, or else of x.
+    pub(super) fn of(m: Modulus) -> Option<Tables>
+        ensures { IfSome result (λ t. Logged m.k m.p t.powers t.logs) }
+    {
+        Tables::by(m, Base::XPlusOne).or_else(|| Tables::by(m, Base::X))
+    }
+
+    // The power at the sum of the logarithms of a and b.
+    pub(super) fn product(&self, a: u16, b: u16) -> u16
+        requires first { a < 256 }
+        requires second { b < 256 }
+        ensures { result ≡ slice_index self.now.powers (slice_index self.now.logs a + slice_index self.now.logs b) }
+    {
+        let i = self.logs[usize::from(a)] + self.logs[usize::from(b)];
+        self.powers[usize::from(i)]
+    }
 }

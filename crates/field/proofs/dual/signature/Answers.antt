@@ -19,7 +19,7 @@ loop-j-preserved g c =
     let is : c.mul-product.result ≡ product m c.args.d (2 ^ j) = c.mul-product.ensures ∙ ap (product m c.args.d) shifted in
     let traced : c.combine.result ≡ t =
     c.combine.ensures ∙ ap (λ x. Rattle.field.specs.Signatures.combined m c.args.traces.now x) is
-    ∙ by_bits m l (trace m) (trace_adds m l) c.args.traces.now (λ i h. c.requires.right i (omega (arith, l.wide))) (product m c.args.d (2 ^ j)) (product_below m l c.args.d (2 ^ j)) in
+    ∙ by_bits m l (trace m) (trace_adds m l) c.args.traces.now (λ i h. c.requires i (omega (arith, l.wide))) (product m c.args.d (2 ^ j)) (product_below m l c.args.d (2 ^ j)) in
     let part = next_sum m l j c.loop-j.bits in
     rw add-one (elim c.if-combine-one.branch [
       | then-combine-one w ↦ w.bits-is ∙ part (1 * 2 ^ j % 65536) (λ j. cond (eqb (trace m (product m c.args.d (2 ^ j))) m.one) (2 ^ j) 0) c.loop-j.invariant

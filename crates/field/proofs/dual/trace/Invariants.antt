@@ -3,8 +3,8 @@ use Rattle.algebra.specs.Field.{size}
 use Rattle.algebra.specs.Codes.{power, code_sum}
 use Rattle.field.proofs.dual.trace.Given as goal
 
-abbrev pub invariant-loop-i : goal.invariant-loop-i
-invariant-loop-i g l =
+abbrev pub invariant-loop : goal.invariant-loop
+invariant-loop g l =
     let m = g.F.Field.model l.f in
     let c = l.t % size m in
-    (l.x ≡ power m c (2 ^ l.i)) × (l.sum ≡ code_sum m l.i (λ j. power m c (2 ^ j)))
+    (l.x ≡ power m c (2 ^ l.counter)) × (l.sum ≡ code_sum m l.counter (λ j. power m c (2 ^ j)))

@@ -1,6 +1,8 @@
 use Rattle.std.proofs.Common.{◌≡◌, ℕ, ◌<◌, length, get_or}
-use Rattle.field.specs.Logged.{raised, base}
+use Rattle.field.specs.Logged.{raised, code}
 use Rattle.field.proofs.shift.logs.powers_of.Given as goal
 
-abbrev pub invariant-loop-i : goal.invariant-loop-i
-invariant-loop-i l = (l.y ≡ raised l.k l.p (base l.odd) l.i) × ((j : ℕ) → j < l.i → get_or l.powers j 0 ≡ raised l.k l.p (base l.odd) j) × (length l.powers ≡ 512)
+abbrev pub invariant-loop-power : goal.invariant-loop-power
+invariant-loop-power l =
+    let at = raised l.m.k l.m.p (code l.base) in
+    (length l.power-items ≡ 512) × (l.y ≡ at l.power-index) × ((j : ℕ) → j < l.power-index → get_or l.power-items j 0 ≡ at j)
