@@ -1,13 +1,15 @@
 -- Counts: of one bits by places, and of the nets of a set. Assumes nothing.
-use Rattle.std.proofs.Common.{◌≡◌, ℕ, zero, suc, ◌+◌, ◌*◌, ◌/◌, ◌%◌, ◌^◌, ◌<◌, ◌≤◌, Bool, true, false, cond, eqb, sym, refl, ap, ◌∙◌, subst, ap₂, mod-lt, mul_comm, add_comm, div-add-mod', zero-add, arith, pow_pos}
+use Rattle.std.proofs.Common.{◌≡◌, ℕ, zero, suc, ◌+◌, ◌*◌, ◌/◌, ◌%◌, ◌^◌, ◌<◌, ◌≤◌, Bool, true, false, cond, eqb, sum_by, List, length, get_or, sym, refl, ap, ◌∙◌, subst, ap₂, mod-lt, mul_comm, add_comm, div-add-mod', zero-add, arith, pow_pos}
 use native.Mathlib.Nat.{add-mul-div_left, div-eq_of_lt}
 use lib.Count.{ones, ones_cat}
 use Rattle.std.proofs.lemmas.Nat.{div_below}
-use Rattle.std.proofs.lemmas.Bool.{false≢true}
-use Rattle.terms.specs.Counts.{count, nets_in, weight}
+use Rattle.std.proofs.lemmas.Bool.{false≢true, cond_both}
+use Rattle.std.proofs.lemmas.List.Recursion.{is_sum_by}
+use Rattle.terms.specs.Counts.{count, nets_in, net_set, weight}
 use Rattle.terms.specs.Sets.{holds, Own}
 use Rattle.terms.specs.declared.nets.NetSet.{NetSet}
 use Rattle.terms.proofs.Members.{number, number_below, holds_number, own_words}
+use Rattle.terms.proofs.Changes.{own_of}
 use Rattle.terms.proofs.Ranks.{low_bit, rank_ones}
 
 pub count_same : (n : ℕ) (p q : ℕ → Bool) → ((i : ℕ) → i < n → p i ≡ q i) → count n p ≡ count n q
@@ -56,3 +58,16 @@ nets_number s o = count_same 256 (holds s) (λ i. eqb (number s / 2 ^ i % 2) 1) 
 
 pub nets_weight : (s : NetSet) → Own s → nets_in s ≡ weight s.words
 nets_weight s o = nets_number s o ∙ rank_ones 64 s.words (own_words 4 s.words o)
+
+-- ---- the nets of four words
+count_le : (n : ℕ) (p : ℕ → Bool) → count n p ≤ n
+unfolding count
+count_le zero p = omega arith
+count_le (suc n) p = cond_both (p n) (suc (count n p)) (count n p) (λ m. m ≤ suc n) (λ _. let h = count_le n p in omega arith) (λ _. let h = count_le n p in omega arith)
+
+module _ (ws : List ℕ) (l : length ws ≡ 4) (b : (i : ℕ) → get_or ws i 0 < 2 ^ 64) where
+  pub nets_sum : nets_in (net_set ws) ≡ sum_by ones ws
+  nets_sum = nets_weight (net_set ws) (own_of ws l b) ∙ is_sum_by weight ones refl (λ _ _. refl) ws
+
+  pub few_ones : sum_by ones ws < 2 ^ 32
+  few_ones = omega (arith, nets_sum, count_le 256 (holds (net_set ws)))

@@ -1,7 +1,11 @@
 -- Subsets word by word, and the sets of the first 64 nets. Assumes nothing.
-use Rattle.std.proofs.Common.{◌≡◌, ℕ, zero, suc, ◌+◌, ◌-◌, ◌*◌, ◌/◌, ◌%◌, ◌^◌, ◌<◌, ◌≤◌, Bool, true, false, not, ◌&&◌, ◌||◌, eqb, List, [], ◌∷◌, get_or, sym, refl, ap, ◌∙◌, subst, ap₂, ⊎_elim, mod-lt, mod-eq_of_lt, div-add-mod', arith, pow_pos, pow_mono}
+use Rattle.std.proofs.Common.{◌≡◌, ℕ, zero, suc, ◌+◌, ◌-◌, ◌*◌, ◌/◌, ◌%◌, ◌^◌, ◌<◌, ◌≤◌, Bool, true, false, not, ◌&&◌, ◌||◌, eqb, List, [], ◌∷◌, length, get_or, sym, refl, ap, ◌∙◌, subst, ap₂, ⊎_elim, mod-lt, mod-eq_of_lt, div-add-mod', arith, pow_pos, pow_mono}
 use native.Mathlib.Nat.{div-eq_of_lt, zero-div}
-use lib.Bits.{bit_and, and_lt}
+use lib.Bits.{bit_and, and_lt, and_zero_l}
+use Rattle.std.specs.Bool.{MatchBool}
+use Rattle.std.specs.List.{zip, AllWithin, HoldsAt}
+use Rattle.std.proofs.lemmas.List.{get_or_past}
+use Rattle.std.proofs.lemmas.Slice.Zip.{get_or-zip, length-zip}
 use Rattle.std.proofs.lemmas.Nat.{div-mul-add, mod-mul-add}
 use Rattle.std.proofs.lemmas.Bool.{cases_lt, cases_Bool, true≢false, false≢true}
 use Rattle.terms.specs.Sets.{holds, Own}
@@ -16,7 +20,7 @@ pub past_bit : (n a i : ℕ) → a < 2 ^ n → n ≤ i → a / 2 ^ i % 2 ≡ 0
 past_bit n a i l h = let p : 2 ^ n ≤ 2 ^ i = pow_mono {i = n} {j = i} h in ap (λ x. x % 2) (div-eq_of_lt (omega arith))
 
 -- the bits of a that b lacks
-abbrev lacked : ℕ → ℕ → ℕ
+abbrev pub lacked : ℕ → ℕ → ℕ
 lacked a b = bit_and a (2 ^ 64 - 1 - b)
 
 implied : (x y : Bool) → (x && not y) ≡ false → (not x || y) ≡ true
@@ -61,6 +65,24 @@ module _ (xs ys : List ℕ) (bx : (i : ℕ) → get_or xs i 0 < 2 ^ 64) (by : (i
       ∙ every_one 256 (λ g. not (holds (net_set xs) g) || holds (net_set ys) g) t (j * 64 + i) at))))
       (λ f. f)
       (cases_Bool (set_on (holds (net_set ys)) (net_set xs)))
+
+-- what a test of each pair of words says
+abbrev pub Covered : ℕ × ℕ → Type 0
+Covered p = lacked p.0 p.1 ≡ 0
+
+module _ (xs ys : List ℕ) (lx : length xs ≡ 4) (ly : length ys ≡ 4) (bx : (i : ℕ) → get_or xs i 0 < 2 ^ 64) (by : (i : ℕ) → get_or ys i 0 < 2 ^ 64) where
+  pair : (j : ℕ) → j < 4 → get_or (zip xs ys) j (0, 0) ≡ (get_or xs j 0, get_or ys j 0)
+  pair j h = get_or-zip xs ys j (0, 0) (omega arith) (omega arith)
+
+  pub subset_tested : (r : Bool) → MatchBool r (AllWithin Covered (zip xs ys) 0 (length (zip xs ys))) ((k : ℕ) × (k < length (zip xs ys)) × HoldsAt (λ p. Covered p → ⊥) (zip xs ys) k) → r ≡ set_on (holds (net_set ys)) (net_set xs)
+  subset_tested true h =
+      sym (subset_yes xs ys bx by (λ j. ⊎_elim
+      (λ l. subst Covered (pair j l) (h j (0, 0) (omega arith) (omega (arith, length-zip xs ys))))
+      (λ l. ap (λ x. lacked x (get_or ys j 0)) (get_or_past xs j 0 (omega arith)) ∙ and_zero_l (2 ^ 64 - 1 - get_or ys j 0))
+      (cases_lt j 4)))
+  subset_tested false h =
+      let l : h.0 < 4 = omega (arith, h.1, length-zip xs ys) in
+      sym (subset_no xs ys bx by h.0 l (λ e. h.2 (0, 0) (subst Covered (sym (pair h.0 l)) e)))
 
 -- ---- the first 64 nets
 abbrev pub low_words : ℕ → List ℕ

@@ -10,28 +10,7 @@ use super::NetSet;
 fn covers(outer: [u64; 4], inner: [u64; 4]) -> bool
     ensures { result ≡ set_on (holds (net_set outer)) (net_set inner) }
 {
-    for i in 0..4 {
-        if inner[i] & !outer[i] != 0 {
-            return false;
-        }
-    }
-    true
-}
-
-// How many bits of the words are one.
-fn one_bits(words: [u64; 4]) -> u32
-    ensures { result ≡ nets_in (net_set words) }
-{
-    let [a, b, c, d] = words;
-    a.count_ones() + b.count_ones() + c.count_ones() + d.count_ones()
-}
-
-// The words of a set of the nets 0 to 63.
-fn low_words(bits: u64) -> [u64; 4]
-    ensures own { Own (net_set result) }
-    ensures members { (g : ℕ) → holds (net_set result) g ≡ (bits / 2 ^ g % 2 == 1) }
-{
-    [bits, 0, 0, 0]
+    inner.iter().zip(&outer).all(|(i, o)| i & !o == 0)
 }
 
 impl NetSet {
@@ -46,7 +25,7 @@ impl NetSet {
     pub fn size(self) -> u32
         ensures { result ≡ nets_in self }
     {
-        one_bits(self.words)
+        self.words.iter().map(|word| word.count_ones()).sum()
     }
 
     // The set of those of the nets 0 to 63 whose bit is one.
@@ -55,7 +34,7 @@ impl NetSet {
         ensures members { (g : ℕ) → holds result g ≡ (bits / 2 ^ g % 2 == 1) }
     {
         NetSet {
-            words: low_words(bits),
+            words: [bits, 0, 0, 0],
         }
     }
 

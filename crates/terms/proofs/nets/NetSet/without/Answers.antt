@@ -6,4 +6,4 @@ pub returns : goal.returns
 returns c =
     let l : length c.args.self.words ≡ 4 = search rules in
     let b : (i : ℕ) → get_or c.args.self.words i 0 < 2 ^ 64 = λ i. search rules in
-    net_out c.args.self.words c.args.g (omega (arith, c.ranges.g.fits)) l b
+    rw c.from.ensures (net_out c.args.self.words c.args.g (omega (arith, c.ranges.g.fits)) l b)

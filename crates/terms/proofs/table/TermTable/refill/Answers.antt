@@ -1,12 +1,11 @@
-use Rattle.std.proofs.Common.{◌≤◌, length, take, sym, refl, arith}
-use Rattle.std.proofs.lemmas.List.{length-take-le}
-use Rattle.terms.proofs.Adding.{table_of}
+use Rattle.std.proofs.Common.{◌++◌, drop, refl, ◌∙◌}
+use Rattle.terms.proofs.Adding.{blanked, refilled}
 use Rattle.terms.proofs.table.TermTable.refill.Goals as goal
 
-pub returns : goal.returns
-returns g c =
+pub returns-clause-copied : goal.returns-clause-copied
+returns-clause-copied g c =
+    let k = g.K.Kind.model c.args.kind.now in
+    let s = c.args.self.now in
     let o = c.args.other.now in
-    let h : o.len ≤ length c.args.self.now.rows.now = omega arith in
-    let made = table_of (g.K.Kind.model c.args.kind.now) (length c.args.self.now.rows.now) c.refill_rows.new.rows o.len (take o.len o.rows.now) c.requires.other.falling c.requires.other.nonzero
-    (sym (length-take-le o.len o.rows.now c.requires.other.within)) h c.refill_rows.ensures in
-    record { same = refl; copied = (made.0, made.1, c.refill_rows.auto.rows) }
+    refilled k o.len _ o.rows.now (c.clear_rows.new.rows ++ drop s.len s.rows.now) c.copy_from_slice.new.self _ c.requires.other c.if-other-self.false (blanked k s.rows.now _ s.len c.requires.table c.clear_rows.ensures)
+    (c.copy_from_slice.ensures.after ∙ c.terms.ensures) refl
