@@ -1,6 +1,7 @@
 -- What is worked in nested form is what the working ends in. Assumes nothing.
-use Rattle.std.proofs.Common.{◌≡◌, ℕ, ◌*◌, ◌<◌, ◌≤◌, Bool, true, cond, not, ◌||◌, List, [], ◌∷◌, take, sym, refl, ap, ◌∙◌, subst, ap₂, mul-le-mul, arith}
+use Rattle.std.proofs.Common.{◌≡◌, ℕ, ◌*◌, ◌<◌, ◌≤◌, Bool, true, cond, not, ◌||◌, List, [], ◌∷◌, take, Ok, Err, Result, IfOk, sym, refl, ap, ◌∙◌, subst, ap₂, mul-le-mul, arith}
 use lib.Bits.{bit_xor, xor_zero_r}
+use Rattle.std.specs.Result.{result_ok}
 use Rattle.algebra.specs.Codes.{Dual}
 use Rattle.algebra.specs.Field.{FieldData, FieldLaws}
 use Rattle.convert.specs.Convert.{finished}
@@ -12,7 +13,7 @@ use Rattle.terms.specs.declared.Term.{Term}
 use Rattle.terms.specs.declared.nets.NetSet.{NetSet}
 use Rattle.terms.proofs.Values.{every_all, every_one}
 use Rattle.cards.specs.Law.{Polynomial, BitTerms}
-use Rattle.cards.specs.Nested.{on_below, value_below, Gained, Finishes}
+use Rattle.cards.specs.Nested.{on_below, value_below, Gained, Finishes, NestedAnswer}
 use Rattle.cards.specs.Sums.{card_kind}
 use Rattle.cards.specs.Working.{card_working}
 use Rattle.cards.proofs.CardLaw.{card_of_lem}
@@ -46,3 +47,12 @@ module _ (m : FieldData) (l : FieldLaws m) (n : ℕ) (few : n ≤ 3) (d : ℕ �
   nested_end k e rows t T g =
       let T' = subst (λ (k : KindModel (List ℕ)). Table k rows t) e T in
       (ending rows t T' (subst (λ (k : KindModel (List ℕ)). Gained m k (n * m.width) bits [] (take t rows)) e g), T')
+
+-- what is answered where the rows were worked, whatever the duals
+pub nested_answer : {E : Type 0} (m : FieldData) (l : FieldLaws m) (n : ℕ) → n ≤ 3 → (cap count : ℕ) (bits : List (Term NetSet)) → BitTerms m n bits → Finishes m n cap count bits
+    → (k : KindModel (List ℕ)) → k ≡ card_kind m n → (p : ℕ) → p ≡ n * m.width → (rows : List (Term (List ℕ))) (r : Result ℕ E) → IfOk r (λ t. Table k rows t × Gained m k p bits [] (take t rows))
+    → NestedAnswer m n cap count bits rows (result_ok r)
+nested_answer m l n few cap count bits terms ends k ek p ep rows (Ok t) h =
+    let g = subst (λ (i : ℕ). Gained m k i bits [] (take t rows)) ep h.1 in
+    (λ d duals. (nested_end m l n few d duals cap count bits terms ends k ek rows t h.0 g).0, subst (λ (k : KindModel (List ℕ)). Table k rows t) ek h.0)
+nested_answer m l n few cap count bits terms ends k ek p ep rows (Err e) h = tt

@@ -1,6 +1,9 @@
 -- What additions to a table gain in value, where the terms under a net are worked together. Assumes nothing.
-use Rattle.std.proofs.Common.{◌≡◌, ℕ, zero, suc, ◌+◌, ◌*◌, ◌/◌, ◌%◌, ◌<◌, ◌≤◌, true, false, cond, List, [], ◌∷◌, ◌++◌, length, get_or, take, drop, Ok, Err, Result, sym, refl, ap, ◌∙◌, subst, ap₂, subst₂, ⊎_elim, mod-lt, div-lt_iff_lt-mul, arith, pow_pos}
+use Rattle.std.proofs.Common.{◌≡◌, ℕ, zero, suc, ◌+◌, ◌*◌, ◌/◌, ◌%◌, ◌<◌, ◌≤◌, true, false, cond, List, [], ◌∷◌, ◌++◌, length, get_or, take, drop, Ok, Err, Result, IfOk, sym, refl, ap, ◌∙◌, subst, ap₂, subst₂, ⊎_elim, mod-lt, div-lt_iff_lt-mul, arith, pow_pos}
 use lib.Bits.{bit_xor, xor_comm, xor_assoc, xor_zero_r, xor_lt}
+use mathlib.Core.Logic.{∥∥₁_elim}
+use native.Mathlib.Nat.{ℕ_set}
+use Rattle.std.specs.Coded.{×_prop, Unit-prop, le_prop}
 use Rattle.std.proofs.lemmas.List.{take_more}
 use Rattle.std.proofs.lemmas.Bool.{cases_Bool, cond-true, cond-false}
 use Rattle.algebra.specs.Codes.{row_power}
@@ -18,10 +21,11 @@ use Rattle.terms.specs.BothKinds.{exp_laws}
 use Rattle.terms.proofs.Laws.{added_codes, added_monos, value_added}
 use Rattle.convert.specs.Convert.{block}
 use Rattle.convert.specs.Products.{all_products}
-use Rattle.convert.specs.declared.Factors.{Factors}
+use Rattle.convert.specs.Owned.{Owned-prop}
+use Rattle.convert.specs.declared.places.Factors.{Factors}
 use Rattle.convert.proofs.Steps.{all_own, adding_monos, monos_append, monos_take, monos_drop}
 use Rattle.cards.specs.Law.{IsInput, card_value}
-use Rattle.cards.specs.Nested.{OfWords, Prepared, on_below, value_below, OwnTerms, Gained}
+use Rattle.cards.specs.Nested.{on_below, value_below, OwnTerms, Gained}
 use Rattle.cards.specs.Sums.{bit_term, card_kind, BitSums}
 use Rattle.cards.proofs.Blocks.{block_is, bit_here, whole}
 use Rattle.cards.proofs.CardLaw.{own_row, value_plain, codes_plain}
@@ -137,21 +141,40 @@ module _ (m : FieldData) (l : FieldLaws m) where
             (λ (e : v p ≡ false). ap (product m (card_value t is xs)) (cond-false (v p) m.one 0 e) ∙ product_zero m l (card_value t is xs) ∙ sym (value_off v p bits held e))
             (cases_Bool (v p))
 
--- the same for a kind that is that of the rows of n words
-pub gained_code : (m : FieldData) (l : FieldLaws m) (k : KindModel (List ℕ)) → OfWords m k → (bits : List (Term NetSet)) (i : ℕ) (d : Term NetSet) → i < length bits → Codes (λ c. c < size m) bits
-    → (ts₀ ts us : List (Term (List ℕ))) → Gained m k 0 (take i bits) ts₀ ts → us ≡ added k (get_or bits i d).code k.unit ts → Gained m k 0 (take (i + 1) bits) ts₀ us
-gained_code m l k w bits i d h u ts₀ ts us =
-    subst (λ (k : KindModel (List ℕ)). Gained m k 0 (take i bits) ts₀ ts → us ≡ added k (get_or bits i d).code k.unit ts → Gained m k 0 (take (i + 1) bits) ts₀ us)
-    (sym w.1) (code_gained m l w.0 bits i d h u ts₀ ts us)
+-- what is gained is gained in one way only
+codes_prop : {M : Type 0} (b : ℕ) (ts : List (Term M)) → IsProp (Codes (λ c. c < b) ts)
+codes_prop b [] = Unit-prop
+codes_prop b (t ∷ ts) = ×_prop le_prop (codes_prop b ts)
 
-pub gained_product : (m : FieldData) (l : FieldLaws m) (k : KindModel (List ℕ)) (f : Factors (List ℕ)) (P : Prepared m k f) (p : ℕ) → p < f.places → (cap : ℕ) (bits : List (Term NetSet))
-    → Monos (λ s. holds s p ≡ true) bits → (is ts us : List (Term (List ℕ))) → Gained m k p bits [] is → OwnTerms m k ts
-    → adding k cap (all_products k (product m) is (block f.width f.sums.now p)) ts ≡ done us → Gained m k (suc p) bits ts us
-gained_product m l k f P p h cap bits held is ts us =
-    let sums = f.sums.now in
-    subst (λ (w : ℕ). Gained m k p bits [] is → OwnTerms m k ts → adding k cap (all_products k (product m) is (block w sums p)) ts ≡ done us → Gained m k (suc p) bits ts us) (sym P.width)
-    (subst (λ (k : KindModel (List ℕ)). Gained m k p bits [] is → OwnTerms m k ts → adding k cap (all_products k (product m) is (block m.width sums p)) ts ≡ done us → Gained m k (suc p) bits ts us)
-    (sym P.kind) (product_gained m l P.words P.few sums P.sums p (subst (λ z. p < z) P.places h) cap bits held is ts us))
+gained_prop : (m : FieldData) (k : KindModel (List ℕ)) (p : ℕ) (bits : List (Term NetSet)) (ts us : List (Term (List ℕ))) → IsProp (Gained m k p bits ts us)
+gained_prop m k p bits ts us x y = λ i. record {
+  own = record { rows = Owned-prop k us x.own.rows y.own.rows i; codes = codes_prop (size m) us x.own.codes y.own.codes i };
+  values = λ xs h. ℕ_set _ _ (x.values xs h) (y.values xs h) i;
+}
+
+-- the same for a kind that is that of the rows of n words
+pub gained_code : (m : FieldData) (l : FieldLaws m) (k : KindModel (List ℕ)) (n : ℕ) → k ≡ card_kind m n → (bits : List (Term NetSet)) (i : ℕ) (d : Term NetSet) → i < length bits
+    → Codes (λ c. c < size m) bits → (ts₀ ts us : List (Term (List ℕ))) → Gained m k 0 (take i bits) ts₀ ts → us ≡ added k (get_or bits i d).code k.unit ts → Gained m k 0 (take (i + 1) bits) ts₀ us
+gained_code m l k n e bits i d h u ts₀ ts us =
+    subst (λ (k : KindModel (List ℕ)). Gained m k 0 (take i bits) ts₀ ts → us ≡ added k (get_or bits i d).code k.unit ts → Gained m k 0 (take (i + 1) bits) ts₀ us)
+    (sym e) (code_gained m l n bits i d h u ts₀ ts us)
+
+-- what the terms cs that hold net p gain: they were worked to the terms is in an empty table, and those were multiplied by the factor of the net
+module _ (m : FieldData) (l : FieldLaws m) (k : KindModel (List ℕ)) (n : ℕ) (few : n ≤ 3) (kind : k ≡ card_kind m n) (f : Factors (List ℕ)) (width : f.width ≡ m.width) (places : f.places ≡ n * m.width) (B : ∥ BitSums m n f.sums.now ∥₁) where
+  by_sums : (p : ℕ) → p < f.places → (cap : ℕ) (cs : List (Term NetSet)) → Monos (λ s. holds s p ≡ true) cs → (is ts us : List (Term (List ℕ))) → Gained m k p cs [] is → OwnTerms m k ts
+      → adding k cap (all_products k (product m) is (block f.width f.sums.now p)) ts ≡ done us → Gained m k (suc p) cs ts us
+  by_sums p h cap cs held is ts us g o e =
+      let sums = f.sums.now in
+      ∥∥₁_elim B (gained_prop m k (suc p) cs ts us) (λ (b : BitSums m n sums).
+      subst (λ (w : ℕ). Gained m k p cs [] is → OwnTerms m k ts → adding k cap (all_products k (product m) is (block w sums p)) ts ≡ done us → Gained m k (suc p) cs ts us) (sym width)
+      (subst (λ (k : KindModel (List ℕ)). Gained m k p cs [] is → OwnTerms m k ts → adding k cap (all_products k (product m) is (block m.width sums p)) ts ≡ done us → Gained m k (suc p) cs ts us)
+      (sym kind) (product_gained m l n few sums b p (subst (λ z. p < z) places h) cap cs held is ts us)) g o e)
+
+  pub gained_product : (p : ℕ) → p < f.places → (cap : ℕ) (cs hs : List (Term NetSet)) → cs ≡ hs → Monos (λ s. holds s p ≡ true) hs → (zs is ts us fs : List (Term (List ℕ))) → zs ≡ [] → Gained m k p cs zs is
+      → OwnTerms m k ts → fs ≡ block f.width f.sums.now p → adding k cap (all_products k (product m) is fs) ts ≡ done us → Gained m k (suc p) cs ts us
+  gained_product p h cap cs hs eh held zs is ts us fs ez g o ef e =
+      by_sums p h cap cs (subst (Monos (λ s. holds s p ≡ true)) (sym eh) held) is ts us (subst (λ (z : List (Term (List ℕ))). Gained m k p cs z is) ez g) o
+      (subst (λ (z : List (Term (List ℕ))). adding k cap (all_products k (product m) is z) ts ≡ done us) ef e)
 
 -- nothing is gained by no terms
 pub gained_none : (m : FieldData) (k : KindModel (List ℕ)) (p : ℕ) (ts : List (Term (List ℕ))) → OwnTerms m k ts → Gained m k p [] ts ts
@@ -171,24 +194,13 @@ gained_both m k p cs bs lack ts us vs g h = record {
       ∙ ap (λ (z : ℕ). bit_xor z c) (xor_comm b a ∙ ap (bit_xor a) (sym (value_without v p bs lack)) ∙ sym (value_append (λ c s. cond (on_below (suc p) v s) c 0) cs bs));
 }
 
--- there is a sum for each place, and its rows are of the kind
-pub prepared_whole : (m : FieldData) (l : FieldLaws m) (k : KindModel (List ℕ)) (f : Factors (List ℕ)) → Prepared m k f → f.places * f.width ≤ length f.sums.now
-prepared_whole m l k f P = subst₂ (λ (a b : ℕ). a * b ≤ length f.sums.now) (sym P.places) (sym P.width) (whole m l P.words f.sums.now P.few P.sums)
-
-pub factor_own : (m : FieldData) (k : KindModel (List ℕ)) (f : Factors (List ℕ)) → Prepared m k f → (p : ℕ) → Monos (λ r. k.own r ≡ true) (block f.width f.sums.now p)
-factor_own m k f P p =
-    let own = subst (λ (k : KindModel (List ℕ)). Monos (λ r. k.own r ≡ true) f.sums.now) (sym P.kind) P.sums.own in
-    monos_take (λ r. k.own r ≡ true) f.width _ (monos_drop (λ r. k.own r ≡ true) (p * f.width) f.sums.now own)
-
 -- no terms are terms of the kind
 pub own_none : (m : FieldData) (k : KindModel (List ℕ)) (ts : List (Term (List ℕ))) → ts ≡ [] → OwnTerms m k ts
 own_none m k ts e = subst (OwnTerms m k) (sym e) (record { rows = tt; codes = tt })
 
--- what holds where a call went well
-abbrev pub WhereOk : {T E : Type 0} → Type 0 → Result T E → Type 0
-WhereOk A (Ok x) = A
-WhereOk A (Err e) = Unit {0}
-
-pub where_ok : {T E A B : Type 0} (r : Result T E) → (A → B) → WhereOk A r → WhereOk B r
-where_ok (Ok x) f a = f a
-where_ok (Err e) f a = tt
+-- the same of a call that goes on with those that lack it
+pub gained_then : {T E : Type 0} (m : FieldData) (k : KindModel (List ℕ)) (net p : ℕ) → suc net ≡ p → (cs bs bits : List (Term NetSet)) → bits ≡ cs ++ bs → Monos (λ s. holds s net ≡ false) bs
+    → (ts us vs : List (Term (List ℕ))) → Gained m k (suc net) cs ts us → (r : Result T E) → IfOk r (λ _. Gained m k net bs us vs) → IfOk r (λ _. Gained m k p bits ts vs)
+gained_then m k net p up cs bs bits parts lack ts us vs first (Ok x) h =
+    subst (λ (i : ℕ). Gained m k i bits ts vs) up (subst (λ (z : List (Term NetSet)). Gained m k (suc net) z ts vs) (sym parts) (gained_both m k net cs bs lack ts us vs first h))
+gained_then m k net p up cs bs bits parts lack ts us vs first (Err e) h = tt

@@ -1,31 +1,19 @@
 -- The card worked in nested form: net by net, from the greatest down. Assumes nothing.
-use Rattle.std.specs.Prelude.{◌≡◌, ℕ, ◌*◌, ◌<◌, ◌≤◌, Bool, true, cond, not, ◌||◌, List, take, Some, None, Option, bit_xor}
+use Rattle.std.specs.Prelude.{◌≡◌, ℕ, ◌<◌, Bool, true, cond, not, ◌||◌, List, take, Some, None, Option, bit_xor}
 use Rattle.algebra.specs.Codes.{Dual}
 use Rattle.algebra.specs.Field.{FieldData, size}
 use Rattle.convert.specs.Convert.{finished}
-use Rattle.convert.specs.declared.Factors.{Factors}
 use Rattle.terms.specs.Kind.{KindModel}
+use Rattle.terms.specs.Lent.{live, Sound}
 use Rattle.terms.specs.Sets.{holds}
 use Rattle.terms.specs.Terms.{Codes, Monos, Table, value}
 use Rattle.terms.specs.Values.{every, bit_at}
 use Rattle.terms.specs.declared.Term.{Term}
 use Rattle.terms.specs.declared.nets.NetSet.{NetSet}
+use Rattle.terms.specs.declared.table.TermTable.{TermTable}
 use Rattle.cards.specs.Law.{card_value}
-use Rattle.cards.specs.Sums.{card_kind, BitSums}
+use Rattle.cards.specs.Sums.{card_kind}
 use Rattle.cards.specs.Working.{card_working}
-
--- the rows of some number of words
-abbrev pub OfWords : FieldData → KindModel (List ℕ) → Type 0
-OfWords m k = (n : ℕ) × (k ≡ card_kind m n)
-
--- the sums of the bits of some number of words, and the kind of their rows
-pub record Prepared (m : FieldData) (k : KindModel (List ℕ)) (f : Factors (List ℕ)) : Type 0 where
-  pub words : ℕ
-  pub few : words ≤ 3
-  pub kind : k ≡ card_kind m words
-  pub width : f.width ≡ m.width
-  pub places : f.places ≡ words * m.width
-  pub sums : BitSums m words f.sums.now
 
 -- each net of s below p has bit one
 abbrev pub on_below : ℕ → (ℕ → Bool) → NetSet → Bool
@@ -40,6 +28,11 @@ pub record OwnTerms (m : FieldData) (k : KindModel (List ℕ)) (ts : List (Term 
   pub rows : Monos (λ r. k.own r ≡ true) ts
   pub codes : Codes (λ c. c < size m) ts
 
+-- a table of such rows
+pub record CardTable (m : FieldData) (k : KindModel (List ℕ)) (t : TermTable (List ℕ)) : Type 0 where
+  pub table : Sound k t
+  pub own : OwnTerms m k (live t)
+
 -- at every input, us is the sum of ts and of the terms of a bit form, of whose nets those below p count
 pub record Gained (m : FieldData) (k : KindModel (List ℕ)) (p : ℕ) (bits : List (Term NetSet)) (ts us : List (Term (List ℕ))) : Type 0 where
   pub own : OwnTerms m k us
@@ -49,7 +42,8 @@ pub record Gained (m : FieldData) (k : KindModel (List ℕ)) (p : ℕ) (bits : L
 abbrev pub Finishes : FieldData → ℕ → ℕ → ℕ → List (Term NetSet) → Type 0
 Finishes m n cap count bits = (d : ℕ → ℕ) → ((i : ℕ) → i < m.width → Dual m i (d i)) → (us : List (Term (List ℕ))) × (card_working m n d cap count bits ≡ finished us)
 
--- where a number is answered, the rows hold as many terms, and the working ends in them
-abbrev pub NestedEnd : FieldData → ℕ → ℕ → ℕ → List (Term NetSet) → List (Term (List ℕ)) → Option ℕ → Type 0
-NestedEnd m n cap count bits rows (Some t) = (d : ℕ → ℕ) × ((i : ℕ) → i < m.width → Dual m i (d i)) × (card_working m n d cap count bits ≡ finished (take t rows)) × Table (card_kind m n) rows t
-NestedEnd m n cap count bits rows None = Unit {0}
+-- where a number is answered, the rows hold as many terms, and the working ends in them, whatever the duals of the bits that it is given
+abbrev pub NestedAnswer : FieldData → ℕ → ℕ → ℕ → List (Term NetSet) → List (Term (List ℕ)) → Option ℕ → Type 0
+NestedAnswer m n cap count bits rows (Some t) =
+    ((d : ℕ → ℕ) → ((i : ℕ) → i < m.width → Dual m i (d i)) → card_working m n d cap count bits ≡ finished (take t rows)) × Table (card_kind m n) rows t
+NestedAnswer m n cap count bits rows None = Unit {0}

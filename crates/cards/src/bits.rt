@@ -1,13 +1,15 @@
 // From a polynomial in the words to its bit form.
 ghost use Rattle.std.specs.Prelude.{◌≡◌, ℕ, ◌≤◌, min, length, replicate};
+ghost use Rattle.algebra.specs.Field.{product};
 ghost use Rattle.terms.specs.Nets.{net_model};
 ghost use Rattle.terms.specs.Terms.{blank};
-ghost use Rattle.cards.specs.BitsWorking.{BitsAnswered};
+ghost use Rattle.convert.specs.Convert.{Answered};
+ghost use Rattle.cards.specs.BitsWorking.{word_factors, BitsAnswered};
 ghost use Rattle.cards.specs.Working.{word_count};
 
 use crate::sums::word_sums;
 use convert::rows::ExponentBits;
-use convert::{Factors, convert};
+use convert::{Conversion, Factors, FullTable, Ring};
 use fault::Fault;
 use field::Field;
 use terms::nets::{NetSet, Nets};
@@ -16,7 +18,7 @@ use terms::{Term, clear_rows};
 // The most terms of a bit form.
 const MAX_TERMS: usize = 256;
 
-// The conversion for at most three words.
+// The working for at most three words, which ends with as many terms as it may.
 fn work<F: Field>(
     field: &F,
     n: usize,
@@ -24,30 +26,22 @@ fn work<F: Field>(
     first: &mut [Term<NetSet>],
     second: &mut [Term<NetSet>],
     bits: &mut [Term<NetSet>],
-) -> Result<usize, Fault>
+) -> Result<usize, FullTable>
     requires { n ≤ 3 }
     ensures first { first.new ≡ replicate (length first.old) (blank net_model) }
     ensures second { second.new ≡ replicate (length second.old) (blank net_model) }
-    ensures bits { BitsAnswered (F.model field.now) n (min (length first.old) (length second.old)) (length bits.old) card.now bits.new result }
+    ensures bits { Answered net_model (product (F.model field.now)) (min (length first.old) (length second.old)) (length bits.old) (word_factors (F.model field.now) n) card.now bits.new result }
 {
     let width = field.width() as usize;
-    let places = ExponentBits { width };
     let sums = word_sums(field, n);
+    let ring = Ring { kind: &Nets, field };
+    let places = ExponentBits { width };
     let factors = Factors {
         sums: &sums,
         width,
         places: n * width,
     };
-    match convert(&Nets, field, &places, card, &factors, first, second, bits) {
-        Ok(terms) => {
-            if terms > MAX_TERMS {
-                clear_rows(&Nets, bits);
-                return Err(Fault::TooManyBitTerms);
-            }
-            Ok(terms)
-        }
-        Err(_full) => Err(Fault::BitTableFull),
-    }
+    Conversion::new(ring, &places, factors).convert(card, first, second, bits)
 }
 
 // The bit form of a polynomial in `n` words, 1 to 3 (below 1 counts as 1, above 3 as 3): makes `bits` hold it, and answers its number of terms, which is at most 256.
@@ -64,5 +58,11 @@ pub fn to_bits<F: Field>(
     ensures second { second.new ≡ replicate (length second.old) (blank net_model) }
     ensures bits { BitsAnswered (F.model field.now) (word_count n) (min (length first.old) (length second.old)) (length bits.old) card.now bits.new result }
 {
-    work(field, n.max(1).min(3), card, first, second, bits)
+    let terms =
+        work(field, n.clamp(1, 3), card, first, second, bits).map_err(|_| Fault::BitTableFull)?;
+    if terms > MAX_TERMS {
+        clear_rows(&Nets, bits);
+        return Err(Fault::TooManyBitTerms);
+    }
+    Ok(terms)
 }

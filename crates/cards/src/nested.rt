@@ -1,19 +1,18 @@
 // The card in nested form: the terms that hold a net are worked together, and their sum is multiplied once by that net's sum.
-ghost use Rattle.std.specs.Prelude.{◌≡◌, ◌^◌, ◌<◌, ◌≤◌, true, false, T, [], length, take, Ok, Err};
+ghost use Rattle.std.specs.Prelude.{◌≡◌, ◌*◌, ◌^◌, ◌<◌, ◌≤◌, true, false, T, [], length, take, IfOk};
 ghost use Rattle.algebra.specs.Field.{size};
-ghost use Rattle.terms.specs.Exps.{exp_model};
-ghost use Rattle.terms.specs.Lent.{live, capacity, Sound};
+ghost use Rattle.terms.specs.Exps.{exp_model, tops_for};
+ghost use Rattle.terms.specs.Lent.{live, Kept};
 ghost use Rattle.terms.specs.Sets.{holds, Within};
 ghost use Rattle.terms.specs.Terms.{Codes, Monos, Table};
-ghost use Rattle.cards.specs.Nested.{OfWords, Prepared, OwnTerms, Gained, Finishes, NestedEnd};
+ghost use Rattle.cards.specs.Nested.{CardTable, Gained, Finishes, NestedAnswer};
+ghost use Rattle.cards.specs.Sums.{BitSums};
 
 use crate::shapes::shapes_fit;
-use crate::sums::bit_sums;
-use crate::words::exponent_rows;
-use convert::{Factors, multiply};
+use convert::Conversion;
 use field::Field;
 use terms::exps::Exps;
-use terms::nets::NetSet;
+use terms::nets::{NetSet, Nets};
 use terms::{Full, Kind, Term, TermTable};
 
 // The rows of an inner table.
@@ -24,115 +23,21 @@ fn leading(bits: &[Term<NetSet>], p: usize) -> usize
     ensures within { result ≤ length bits.now }
     ensures held { Monos (λ s. holds s p ≡ true) (take result bits.now) }
 {
-    for i in 0..bits.len() {
-        if !bits[i].mono.has(p) {
-            return i;
-        }
-    }
-    bits.len()
+    bits.iter().take_while(|t| t.mono.has(p)).count()
 }
 
 // Whether no term holds net `p`.
 fn absent(bits: &[Term<NetSet>], p: usize) -> bool
     ensures { T result → Monos (λ s. holds s p ≡ false) bits.now }
 {
-    for i in 0..bits.len() {
-        if bits[i].mono.has(p) {
-            return false;
-        }
-    }
-    true
-}
-
-// Adds each code, with the unit.
-fn add_codes<F: Field>(
-    kind: &Exps,
-    field: &F,
-    bits: &[Term<NetSet>],
-    out: &mut TermTable<[u16; 3]>,
-) -> Result<(), Full>
-    requires words { OfWords (F.model field.now) (exp_model kind.now.tops) }
-    requires codes { Codes (λ c. c < size (F.model field.now)) bits.now }
-    requires sound { Sound (exp_model kind.now.tops) out.old }
-    requires own { OwnTerms (F.model field.now) (exp_model kind.now.tops) (live out.old) }
-    ensures same { out.new.rows.ghost_name ≡ out.old.rows.ghost_name }
-    ensures room { capacity out.new ≡ capacity out.old }
-    ensures sound { Sound (exp_model kind.now.tops) out.new }
-    ensures sum { elim result [ Ok _ ↦ Gained (F.model field.now) (exp_model kind.now.tops) 0 bits.now (live out.old) (live out.new) | Err _ ↦ Unit {0} ] }
-{
-    for i in 0..bits.len() {
-        let code = bits[i].code;
-        out.add(kind, code, kind.unit())?;
-    }
-    Ok(())
-}
-
-// Adds the sum of the terms to `out`, of whose nets those below `p` count; gives up where a table is full, or the terms do not fall.
-fn add_nested<F: Field>(
-    kind: &Exps,
-    field: &F,
-    factors: &Factors<[u16; 3]>,
-    bits: &[Term<NetSet>],
-    p: usize,
-    out: &mut TermTable<[u16; 3]>,
-) -> Result<(), Full>
-    requires prepared { Prepared (F.model field.now) (exp_model kind.now.tops) factors.now }
-    requires place { p ≤ factors.now.places }
-    requires codes { Codes (λ c. c < size (F.model field.now)) bits.now }
-    requires sound { Sound (exp_model kind.now.tops) out.old }
-    requires own { OwnTerms (F.model field.now) (exp_model kind.now.tops) (live out.old) }
-    ensures same { out.new.rows.ghost_name ≡ out.old.rows.ghost_name }
-    ensures room { capacity out.new ≡ capacity out.old }
-    ensures sound { Sound (exp_model kind.now.tops) out.new }
-    ensures sum { elim result [ Ok _ ↦ Gained (F.model field.now) (exp_model kind.now.tops) p bits.now (live out.old) (live out.new) | Err _ ↦ Unit {0} ] }
-{
-    if p == 0 {
-        return add_codes(kind, field, bits, out);
-    }
-    let net = p - 1;
-    let n = leading(bits, net);
-    let (with, without) = bits.split_at(n);
-    if !absent(without, net) {
-        return Err(Full);
-    }
-    if n == 0 {
-        return add_nested(kind, field, factors, without, net, out);
-    }
-    let mut rows = [Term {
-        code: 0,
-        mono: [0; 3],
-    }; INNER];
-    let mut inner = TermTable::new(kind, &mut rows);
-    add_nested(kind, field, factors, with, net, &mut inner)?;
-    multiply(kind, field, &inner, factors.at(net), out)?;
-    add_nested(kind, field, factors, without, net, out)
-}
-
-// Makes `card` hold the sum of the terms, and answers its number of terms.
-fn nested_card<F: Field>(
-    kind: &Exps,
-    field: &F,
-    factors: &Factors<[u16; 3]>,
-    bits: &[Term<NetSet>],
-    card: &mut [Term<[u16; 3]>],
-) -> Result<usize, Full>
-    requires prepared { Prepared (F.model field.now) (exp_model kind.now.tops) factors.now }
-    requires codes { Codes (λ c. c < size (F.model field.now)) bits.now }
-    ensures { elim result [ Ok n ↦ Table (exp_model kind.now.tops) card.new n × Gained (F.model field.now) (exp_model kind.now.tops) factors.now.places bits.now [] (take n card.new) | Err _ ↦ Unit {0} ] }
-{
-    let mut out = TermTable::new(kind, card);
-    add_nested(kind, field, factors, bits, factors.places, &mut out)?;
-    Ok(out.len())
+    bits.iter().all(|t| !t.mono.has(p))
 }
 
 // Whether every net of the set is below `places`.
 fn below(s: NetSet, places: usize) -> bool
     ensures { T result → Within places s }
 {
-    match s.greatest() {
-        Some(g) => (g as usize) < places,
-        None => true,
-    }
+    s.greatest().is_none_or(|g| usize::from(g) < places)
 }
 
 // Whether all codes are below `order`, and all nets below `places`.
@@ -140,16 +45,8 @@ fn in_words(bits: &[Term<NetSet>], order: u16, places: usize) -> bool
     ensures codes { T result → Codes (λ c. c < order) bits.now }
     ensures nets { T result → Monos (Within places) bits.now }
 {
-    for i in 0..bits.len() {
-        let t = bits[i];
-        if t.code >= order {
-            return false;
-        }
-        if !below(t.mono, places) {
-            return false;
-        }
-    }
-    true
+    bits.iter()
+        .all(|t| t.code < order && below(t.mono, places))
 }
 
 // Whether tables of `cap` and `count` rows have a row for each product of powers of `n` words.
@@ -159,51 +56,111 @@ fn rows_suffice(order: u16, n: usize, cap: usize, count: usize) -> bool
     ensures product { T result → order ^ n ≤ cap }
     ensures outcome { T result → order ^ n ≤ count }
 {
-    let all = (order as usize).pow(n as u32);
+    let all = usize::from(order).pow(n as u32);
     all <= cap && all <= count
 }
 
-// Whether the working is sure to go to its end, with product tables of `cap` rows and a card table of `count` rows.
-fn certain<F: Field>(field: &F, n: usize, bits: &[Term<NetSet>], cap: usize, count: usize) -> bool
-    requires { n ≤ 3 }
-    ensures { T result → Finishes (F.model field.now) n cap count bits.now }
-{
-    let order = field.order();
-    if rows_suffice(order, n, cap, count) {
-        return true;
-    }
-    shapes_fit(field, n, bits, cap, count)
+// The conversion to the card in `words` words, in nested form.
+#[derive(Drop)]
+pub(crate) struct Nested<'a, F: Field> {
+    pub(crate) conversion: Conversion<'a, [u16; 3], Exps, F, Nets>,
+    pub(crate) words: usize,
+    ghost few: { words ≤ 3 },
+    ghost tops: { conversion.ring.kind.now.tops ≡ tops_for (size (F.model conversion.ring.field.now)) words },
+    ghost width: { conversion.factors.width ≡ (F.model conversion.ring.field.now).width },
+    ghost places: { conversion.factors.places ≡ words * (F.model conversion.ring.field.now).width },
+    ghost sums: { ∥ BitSums (F.model conversion.ring.field.now) words conversion.factors.sums.now ∥₁ },
 }
 
-// Makes `card` hold the card of a bit form in `n` words, where it is sure that the working with product tables of `cap` rows goes to its end,
-// and answers the number of its terms.
-pub(crate) fn nested_answer<F: Field>(
-    field: &F,
-    n: usize,
-    bits: &[Term<NetSet>],
-    cap: usize,
-    card: &mut [Term<[u16; 3]>],
-) -> Option<usize>
-    requires { n ≤ 3 }
-    ensures { NestedEnd (F.model field.now) n cap (length card.old) bits.now card.new result }
-{
-    let width = field.width() as usize;
-    let order = field.order();
-    if !in_words(bits, order, n * width) {
-        return None;
+impl<F: Field> Nested<'_, F> {
+    // Adds each code, with the unit.
+    fn add_codes(
+        &self,
+        bits: &[Term<NetSet>],
+        out: &mut TermTable<[u16; 3]>,
+    ) -> Result<(), Full>
+        requires codes { Codes (λ c. c < size (F.model self.now.conversion.ring.field.now)) bits.now }
+        requires out { CardTable (F.model self.now.conversion.ring.field.now) (exp_model self.now.conversion.ring.kind.now.tops) out.old }
+        ensures out { Kept (exp_model self.now.conversion.ring.kind.now.tops) out.old out.new }
+        ensures sum { IfOk result (λ _. Gained (F.model self.now.conversion.ring.field.now) (exp_model self.now.conversion.ring.kind.now.tops) 0 bits.now (live out.old) (live out.new)) }
+    {
+        let kind = self.conversion.ring.kind;
+        for t in bits {
+            out.add(kind, t.code, kind.unit())?;
+        }
+        Ok(())
     }
-    if !certain(field, n, bits, cap, card.len()) {
-        return None;
+
+    // Adds the sum of the terms to `out`, of whose nets those below `p` count; gives up where a table is full, or the terms do not fall.
+    fn add_nested(
+        &self,
+        bits: &[Term<NetSet>],
+        p: usize,
+        out: &mut TermTable<[u16; 3]>,
+    ) -> Result<(), Full>
+        requires place { p ≤ self.now.conversion.factors.places }
+        requires codes { Codes (λ c. c < size (F.model self.now.conversion.ring.field.now)) bits.now }
+        requires out { CardTable (F.model self.now.conversion.ring.field.now) (exp_model self.now.conversion.ring.kind.now.tops) out.old }
+        ensures out { Kept (exp_model self.now.conversion.ring.kind.now.tops) out.old out.new }
+        ensures sum { IfOk result (λ _. Gained (F.model self.now.conversion.ring.field.now) (exp_model self.now.conversion.ring.kind.now.tops) p bits.now (live out.old) (live out.new)) }
+    {
+        if p == 0 {
+            return self.add_codes(bits, out);
+        }
+        let net = p - 1;
+        let n = leading(bits, net);
+        let (with, without) = bits.split_at(n);
+        if !absent(without, net) {
+            return Err(Full);
+        }
+        if n == 0 {
+            return self.add_nested(without, net, out);
+        }
+        let mut rows = [Term {
+            code: 0,
+            mono: [0; 3],
+        }; INNER];
+        let mut inner = TermTable::new(self.conversion.ring.kind, &mut rows);
+        self.add_nested(with, net, &mut inner)?;
+        let factor = self.conversion.factors.at(net);
+        self.conversion.ring.multiply(&inner, factor, out)?;
+        self.add_nested(without, net, out)
     }
-    let kind = exponent_rows(field, n);
-    let sums = bit_sums(field, n);
-    let factors = Factors {
-        sums: &sums,
-        width,
-        places: n * width,
-    };
-    match nested_card(&kind, field, &factors, bits, card) {
-        Ok(terms) => Some(terms),
-        Err(_full) => None,
+
+    // Makes `card` hold the sum of the terms, and answers its number of terms.
+    fn card(&self, bits: &[Term<NetSet>], card: &mut [Term<[u16; 3]>]) -> Result<usize, Full>
+        requires { Codes (λ c. c < size (F.model self.now.conversion.ring.field.now)) bits.now }
+        ensures { IfOk result (λ n. Table (exp_model self.now.conversion.ring.kind.now.tops) card.new n × Gained (F.model self.now.conversion.ring.field.now) (exp_model self.now.conversion.ring.kind.now.tops) self.now.conversion.factors.places bits.now [] (take n card.new)) }
+    {
+        let mut out = TermTable::new(self.conversion.ring.kind, card);
+        self.add_nested(bits, self.conversion.factors.places, &mut out)?;
+        Ok(out.len())
+    }
+
+    // Whether the working is sure to go to its end, with product tables of `cap` rows and a card table of `count` rows.
+    fn certain(&self, bits: &[Term<NetSet>], cap: usize, count: usize) -> bool
+        ensures { T result → Finishes (F.model self.now.conversion.ring.field.now) self.now.words cap count bits.now }
+    {
+        let field = self.conversion.ring.field;
+        rows_suffice(field.order(), self.words, cap, count)
+            || shapes_fit(field, self.words, bits, cap, count)
+    }
+
+    // Makes `card` hold the card of a bit form, where it is sure that the working with product tables of `cap` rows goes to its end,
+    // and answers the number of its terms.
+    pub(crate) fn answer(
+        &self,
+        bits: &[Term<NetSet>],
+        cap: usize,
+        card: &mut [Term<[u16; 3]>],
+    ) -> Option<usize>
+        ensures { NestedAnswer (F.model self.now.conversion.ring.field.now) self.now.words cap (length card.old) bits.now card.new result }
+    {
+        let order = self.conversion.ring.field.order();
+        let places = self.conversion.factors.places;
+        if !in_words(bits, order, places) || !self.certain(bits, cap, card.len()) {
+            return None;
+        }
+        self.card(bits, card).ok()
     }
 }

@@ -1,6 +1,8 @@
 pub mod Kept
 pub mod Alike
 pub mod Additions
+pub mod Underway
+pub mod Midway
 pub mod Steps
 pub mod Plain
 pub mod Value

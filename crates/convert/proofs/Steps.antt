@@ -1,16 +1,18 @@
 -- One step of each loop of a conversion. Assumes nothing.
-use Rattle.std.proofs.Common.{◌≡◌, ℕ, zero, suc, ◌+◌, ◌-◌, ◌*◌, ◌<◌, ◌≤◌, Bool, true, false, cond, ltb, List, [], ◌∷◌, ◌++◌, length, get_or, take, drop, sym, refl, ap, ◌∙◌, subst, ⊎_elim, mul-le-mul_right, suc-mul, arith}
+use Rattle.std.proofs.Common.{◌≡◌, ℕ, zero, suc, ◌+◌, ◌-◌, ◌*◌, ◌<◌, Bool, true, false, cond, ltb, List, [], ◌∷◌, ◌++◌, length, get_or, take, drop, sym, ap, ◌∙◌, subst, ⊎_elim, arith}
 use Rattle.std.proofs.lemmas.List.{at_drop_more}
 use Rattle.std.proofs.lemmas.Bool.{cases_Bool, cond-true, cond-false}
 use Rattle.terms.specs.Kind.{KindModel, KindLaws}
 use Rattle.terms.specs.Terms.{added, Monos}
 use Rattle.terms.specs.declared.Term.{Term}
 use Rattle.terms.proofs.Laws.{added_monos}
-use Rattle.terms.specs.Additions.{Ended, done, full, adding}
+use Rattle.terms.specs.Additions.{done, full, adding}
+use Rattle.convert.specs.Owned.{Owned}
 use Rattle.convert.specs.Products.{products, all_products}
-use Rattle.convert.proofs.Additions.{done_is, done_full, one_more, one_full}
-use Rattle.convert.specs.declared.FullTable.TheVariants.{Product, Outcome}
-use Rattle.convert.specs.Convert.{chosen, then, Stopped, multiplying, expanding, Converted, stopped, noted, joined, converting}
+use Rattle.convert.specs.declared.places.Factors.{Factors}
+use Rattle.convert.proofs.Additions.{done_is, done_full}
+use Rattle.convert.specs.declared.FullTable.TheVariants.{Outcome}
+use Rattle.convert.specs.Convert.{block, chosen, expanding, Converted, stopped, noted, joined, converting}
 
 -- ---- the places
 module _ {M : Type 0} (held : ℕ → Bool) (f : ℕ → List (Term M)) (i n : ℕ) (h : i < n) where
@@ -26,9 +28,6 @@ module _ {M : Type 0} (held : ℕ → Bool) (f : ℕ → List (Term M)) (i n : �
   pub chosen_not : held i ≡ false → chosen held f i (n - i) ≡ chosen held f (i + 1) (n - (i + 1))
   chosen_not e = chosen_next ∙ cond-false (held i) (f i ∷ chosen held f (i + 1) (n - (i + 1))) (chosen held f (i + 1) (n - (i + 1))) e
 
-pub chosen_end : {M : Type 0} (held : ℕ → Bool) (f : ℕ → List (Term M)) (i n : ℕ) → n ≤ i → chosen held f i (n - i) ≡ []
-chosen_end held f i n h = let e : n - i ≡ 0 = omega arith in ap (chosen held f i) e
-
 -- ---- own monomials
 pub monos_take : {M : Type 0} (P : M → Type 0) (n : ℕ) (ts : List (Term M)) → Monos P ts → Monos P (take n ts)
 monos_take P zero ts u = tt
@@ -43,6 +42,10 @@ monos_drop P (suc n) (t ∷ ts) u = monos_drop P n ts u.1
 pub monos_append : {M : Type 0} (P : M → Type 0) (ss ts : List (Term M)) → Monos P ss → Monos P ts → Monos P (ss ++ ts)
 monos_append P [] ts u v = v
 monos_append P (s ∷ ss) ts u v = (u.0, monos_append P ss ts u.1 v)
+
+-- the factor of a place
+pub block_owned : {M : Type 0} (k : KindModel M) (f : Factors M) (p : ℕ) → Owned k f.sums.now → Owned k (block f.width f.sums.now p)
+block_owned k f p u = monos_take (λ m. k.own m ≡ true) f.width (drop (p * f.width) f.sums.now) (monos_drop (λ m. k.own m ≡ true) (p * f.width) f.sums.now u)
 
 module _ {M : Type 0} (k : KindModel M) (L : KindLaws k) (mul : ℕ → ℕ → ℕ) where
   abbrev Own : M → Type 0
@@ -65,41 +68,10 @@ module _ {M : Type 0} (k : KindModel M) (L : KindLaws k) (mul : ℕ → ℕ → 
       (sym (cond-false (ltb cap (length (added k x.code x.mono ts))) (full ts) (adding k cap adds (added k x.code x.mono ts)) b) ∙ e))
       (cases_Bool (ltb cap (length (added k x.code x.mono ts))))
 
--- ---- one factor
-module _ {M : Type 0} (k : KindModel M) (mul : ℕ → ℕ → ℕ) (cap : ℕ) (f : List (Term M)) (fs : List (List (Term M))) (ts us : List (Term M)) where
-  pub factor_more : adding k cap (all_products k mul ts f) [] ≡ done us → multiplying k mul cap (f ∷ fs) ts ≡ multiplying k mul cap fs us
-  factor_more e = ap (λ x. then x (multiplying k mul cap fs)) e
-
-  pub factor_full : adding k cap (all_products k mul ts f) [] ≡ full us → multiplying k mul cap (f ∷ fs) ts ≡ full us
-  factor_full e = ap (λ x. then x (multiplying k mul cap fs)) e
-
-pub block_fits : (p places width : ℕ) → p < places → p * width + width ≤ places * width
-block_fits p places width h = subst (λ x. x ≤ places * width) (suc-mul p width) (mul-le-mul_right width h)
-
--- the additions to a table that was emptied
-pub restart : {M : Type 0} (k : KindModel M) (mul : ℕ → ℕ → ℕ) (cap cap' : ℕ) (ts factor zs : List (Term M)) (e : Ended M) → cap' ≡ cap → zs ≡ []
-    → adding k cap' (all_products k mul ts factor) zs ≡ e → adding k cap (all_products k mul ts factor) [] ≡ e
-restart k mul cap cap' ts factor zs e a b h =
-    subst (λ x. adding k x (all_products k mul ts factor) [] ≡ e) a (subst (λ z. adding k cap' (all_products k mul ts factor) z ≡ e) b h)
-
 -- ---- one source term
-module _ {M : Type 0} (k : KindModel M) (mul : ℕ → ℕ → ℕ) (cap c : ℕ) (fs : List (List (Term M))) where
-  pub first_more : (ts : List (Term M)) → ts ≡ added k c k.unit [] → length ts ≤ cap → expanding k mul cap c fs ≡ multiplying k mul cap fs ts
-  first_more ts e l = ap (λ x. then x (multiplying k mul cap fs)) (one_more k cap [] c k.unit [] ts e l)
-
-  pub first_full : cap < length (added k c k.unit []) → expanding k mul cap c fs ≡ full []
-  first_full l = ap (λ x. then x (multiplying k mul cap fs)) (one_full k cap [] c k.unit [] [] l)
-
 module _ {S M : Type 0} (k : KindModel M) (mul : ℕ → ℕ → ℕ) (cap rcap : ℕ) (factors : S → List (List (Term M))) (ss : List (Term S)) (i : ℕ) (h : i < length ss) (u : Term S) (r : u ≡ get_or ss i u) (rs : List (Term M)) where
   conv_next : converting k mul cap rcap factors (drop i ss) rs ≡ joined k rcap (expanding k mul cap u.code (factors u.mono)) rs (converting k mul cap rcap factors (drop (i + 1) ss))
   conv_next = at_drop_more (λ xs. converting k mul cap rcap factors xs rs) ss i u h ∙ ap (λ x. converting k mul cap rcap factors (x ∷ drop (i + 1) ss) rs) (sym r)
-
-  stops : (x : Ended M) (go : List (Term M) → Converted M) → Stopped x → joined k rcap x rs go ≡ stopped Product
-  stops (done us) go e = absurd e
-  stops (full us) go e = refl
-
-  pub conv_product : Stopped (expanding k mul cap u.code (factors u.mono)) → converting k mul cap rcap factors (drop i ss) rs ≡ stopped Product
-  conv_product e = conv_next ∙ stops (expanding k mul cap u.code (factors u.mono)) (converting k mul cap rcap factors (drop (i + 1) ss)) e
 
   pub conv_outcome : (us rs' : List (Term M)) → expanding k mul cap u.code (factors u.mono) ≡ done us → adding k rcap us rs ≡ full rs' → converting k mul cap rcap factors (drop i ss) rs ≡ stopped Outcome
   conv_outcome us rs' e d =

@@ -1,11 +1,11 @@
 -- The working from one kind of terms to another, through product tables and a result table of given capacities. Assumes nothing.
-use Rattle.std.specs.Prelude.{◌≡◌, ℕ, zero, suc, ◌*◌, ◌≤◌, Bool, cond, List, [], ◌∷◌, length, take, drop, replicate, Ok, Err, Result}
+use Rattle.std.specs.Prelude.{◌≡◌, ℕ, zero, suc, ◌*◌, Bool, cond, List, [], ◌∷◌, take, drop, replicate, Ok, Err, Result}
 use Rattle.terms.specs.Kind.{KindModel}
 use Rattle.terms.specs.Terms.{term, blank, Table}
 use Rattle.terms.specs.declared.Term.{Term}
 use Rattle.terms.specs.Additions.{Ended, done, full, adding}
 use Rattle.convert.specs.Products.{all_products}
-use Rattle.convert.specs.declared.Factors.{Factors}
+use Rattle.convert.specs.declared.places.Factors.{Factors}
 use Rattle.convert.specs.declared.FullTable.{FullTable}
 use Rattle.convert.specs.declared.FullTable.TheVariants.{Product, Outcome}
 
@@ -21,10 +21,6 @@ chosen held f i (suc n) = cond (held i) (f i ∷ chosen held f (suc i) n) (chose
 -- the factors of the places held
 abbrev pub factors_of : {M : Type 0} → Factors M → (ℕ → Bool) → List (List (Term M))
 factors_of f held = chosen held (block f.width f.sums.now) 0 f.places
-
--- there is a term for each place and each of its `width` numbers
-abbrev pub Whole : {M : Type 0} → Factors M → Type 0
-Whole f = f.places * f.width ≤ length f.sums.now
 
 -- a working goes on where it has not found a full table
 abbrev pub then : {M : Type 0} → Ended M → (List (Term M) → Ended M) → Ended M

@@ -1,3 +1,4 @@
+pub mod Owned
 pub mod Products
 pub mod Convert
 pub mod Places

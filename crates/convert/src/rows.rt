@@ -16,7 +16,7 @@ impl Holds<[u16; 3]> for ExponentBits {
     ghost held = { λ x r p. row_held x.width r p };
 
     fn holds(&self, s: [u16; 3], p: usize) -> bool {
-        let w = p / self.width;
-        w < 3 && (s[w] >> (p % self.width)) & 1 == 1
+        s.get(p / self.width)
+            .is_some_and(|e| e >> (p % self.width) & 1 == 1)
     }
 }

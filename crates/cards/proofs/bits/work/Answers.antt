@@ -1,65 +1,20 @@
-use Rattle.std.proofs.Common.{◌≡◌, ◌*◌, ◌≤◌, min, length, replicate, Ok, Err, sym, subst}
+use Rattle.std.proofs.Common.{◌≡◌, ◌*◌, min, length, subst, subst₂}
+use Rattle.algebra.specs.Field.{product}
+use Rattle.convert.specs.Convert.{factors_of, Answered}
+use Rattle.convert.specs.Places.{row_held}
 use Rattle.terms.specs.Nets.{net_model}
-use Rattle.terms.specs.Terms.{blank}
-use Rattle.cards.proofs.FormLaw.{bits_ok, bits_many, bits_err}
-use Rattle.cards.proofs.Blocks.{words_whole, bits_answered_by}
+use Rattle.cards.proofs.Blocks.{bits_answered_by}
 use Rattle.cards.proofs.bits.work.Goals as goal
 
-pub convert-requires : goal.convert-requires
-convert-requires g c =
+pub returns-clause-bits : goal.returns-clause-bits
+returns-clause-bits g c =
     let m = g.F.Field.model c.args.field.now in
     let l = g.met.F.Field.holds c.args.field.now in
-    let sums = c.word_sums-sums.result in
-    record {
-      whole = subst (λ w. c.args.n * w * w ≤ length sums) (sym c.width-width.ensures) (words_whole m l c.args.n sums c.requires c.word_sums-sums.ensures);
-      owned = c.word_sums-sums.ensures.own;
-    }
-
-pub returns-then-terms-gt-MAX_TERMS : goal.returns-then-terms-gt-MAX_TERMS
-returns-then-terms-gt-MAX_TERMS g c =
-    let m = g.F.Field.model c.args.field.now in
-    let l = g.met.F.Field.holds c.args.field.now in
-    let x = c.in-Ok.ensures in
+    let parts = c.new.ensures in
+    let card = c.args.card.now in
+    let rows = c.convert.new.res in
     let cap = min (length c.args.first.now) (length c.args.second.now) in
     let count = length c.args.bits.now in
-    let rows = c.convert.new.res in
-    let t = c.in-Ok.terms in
-    record {
-      first = x.first;
-      second = x.second;
-      bits = bits_many m l c.args.n c.requires cap count c.args.card.now rows t c.if-terms-gt-MAX_TERMS.true
-          (bits_answered_by m l c.args.n c.word_sums-sums.result c.requires c.word_sums-sums.ensures c.width-width.result cap count c.args.card.now rows (Ok t) c.width-width.ensures x.worked)
-          c.clear_rows.new.rows (subst (λ r. c.clear_rows.new.rows ≡ replicate r (blank net_model)) c.convert.auto.res c.clear_rows.ensures);
-    }
-
-pub returns-else-terms-gt-MAX_TERMS : goal.returns-else-terms-gt-MAX_TERMS
-returns-else-terms-gt-MAX_TERMS g c =
-    let m = g.F.Field.model c.args.field.now in
-    let l = g.met.F.Field.holds c.args.field.now in
-    let x = c.in-Ok.ensures in
-    let cap = min (length c.args.first.now) (length c.args.second.now) in
-    let count = length c.args.bits.now in
-    let rows = c.convert.new.res in
-    let t = c.in-Ok.terms in
-    record {
-      first = x.first;
-      second = x.second;
-      bits = bits_ok m l c.args.n c.requires cap count c.args.card.now rows t c.if-terms-gt-MAX_TERMS.false
-          (bits_answered_by m l c.args.n c.word_sums-sums.result c.requires c.word_sums-sums.ensures c.width-width.result cap count c.args.card.now rows (Ok t) c.width-width.ensures x.worked);
-    }
-
-pub returns-in-Err : goal.returns-in-Err
-returns-in-Err g c =
-    let m = g.F.Field.model c.args.field.now in
-    let l = g.met.F.Field.holds c.args.field.now in
-    let x = c.in-Err.ensures in
-    let cap = min (length c.args.first.now) (length c.args.second.now) in
-    let count = length c.args.bits.now in
-    let rows = c.convert.new.res in
-    let t = c.in-Err._full in
-    record {
-      first = x.first;
-      second = x.second;
-      bits = bits_err m l c.args.n c.requires cap count c.args.card.now rows t
-          (bits_answered_by m l c.args.n c.word_sums-sums.result c.requires c.word_sums-sums.ensures c.width-width.result cap count c.args.card.now rows (Err t) c.width-width.ensures x.worked);
-    }
+    let by_source = subst (λ x. Answered net_model (product (g.F.Field.model c.new.result.ring.field.now)) cap count (λ s. factors_of c.new.result.factors (row_held x.width s)) card rows c.convert.result) parts.source c.convert.ensures.worked in
+    let by_parts = subst₂ (λ r f. Answered net_model (product (g.F.Field.model r.field.now)) cap count (λ s. factors_of f (row_held c.width-width.result s)) card rows c.convert.result) parts.ring parts.factors by_source in
+    bits_answered_by m l c.args.n c.word_sums-sums.result c.requires c.word_sums-sums.ensures c.width-width.result cap count card rows c.convert.result c.width-width.ensures by_parts

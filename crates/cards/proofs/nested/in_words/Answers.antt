@@ -1,26 +1,18 @@
-use Rattle.std.proofs.Common.{◌<◌, [], subst}
-use Rattle.std.proofs.lemmas.List.{take_all}
+use Rattle.std.proofs.Common.{◌<◌, rules, tests}
+use Rattle.std.specs.Bool.{⊤}
+use Rattle.std.proofs.lemmas.Iterator.{YieldsList-from_slice, cases_from_all}
 use Rattle.terms.specs.Sets.{Within}
-use Rattle.terms.specs.Terms.{Codes, Monos}
-use Rattle.terms.specs.declared.Term.{Term}
-use Rattle.terms.specs.declared.nets.NetSet.{NetSet}
-use Rattle.cards.proofs.Gains.{monos_next, codes_next}
+use Rattle.cards.proofs.Tests.{passed, monos_within, codes_within}
 use Rattle.cards.proofs.nested.in_words.Goals as goal
 
--- what a read past the end would give
-abbrev no-term : Term NetSet
-no-term = record { code = 0; mono = record { words = [] } }
+pub returns-clause-codes : goal.returns-clause-codes
+returns-clause-codes c = λ h.
+    let bits = c.args.bits.now in
+    codes_within (λ x. x < c.args.order) bits (passed _ _ c.all.result
+    (cases_from_all _ _ _ (λ t. t.code < c.args.order) (λ t. ⊤) c.all.ensures.ran (YieldsList-from_slice bits cc) (λ x q k. search (rules, tests)) (λ x q k. tt)) h)
 
-pub loop-i-preserved : goal.loop-i-preserved
-loop-i-preserved c = (
-  codes_next (λ x. x < c.args.order) c.args.bits.now c.loop-i.i no-term c.loop-i-test.true c.loop-i.invariant.0 c.if-t-order.false,
-  monos_next (Within c.args.places) c.args.bits.now c.loop-i.i no-term c.loop-i-test.true c.loop-i.invariant.1 (c.if-not-below.ensures tt),
-)
-
-pub returns : goal.returns
-returns c =
-    let all = take_all c.loop-i.i c.args.bits.now c.loop-i-test.false in
-    record {
-      codes = λ _. subst (Codes (λ x. x < c.args.order)) all c.loop-i.invariant.0;
-      nets = λ _. subst (Monos (Within c.args.places)) all c.loop-i.invariant.1;
-    }
+pub returns-clause-nets : goal.returns-clause-nets
+returns-clause-nets c = λ h.
+    let bits = c.args.bits.now in
+    monos_within (Within c.args.places) bits (passed _ _ c.all.result
+    (cases_from_all _ _ _ (λ t. Within c.args.places t.mono) (λ t. ⊤) c.all.ensures.ran (YieldsList-from_slice bits cc) (λ x q k. search (rules, tests)) (λ x q k. tt)) h)
