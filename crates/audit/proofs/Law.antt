@@ -1,5 +1,5 @@
 -- The law, from what the calls promise. Assumes nothing.
-use Rattle.std.proofs.Common.{◌≡◌, ℕ, zero, suc, ◌<◌, ◌≤◌, min, List, [], ◌∷◌, map, length, take, Some, None, Ok, Err, Option, Result, sym, refl, ap, ◌∙◌, subst, ap₂, subst₂, arith}
+use Rattle.std.proofs.Common.{◌≡◌, ℕ, ◌≤◌, min, List, [], ◌∷◌, map, length, take, Some, None, Ok, Err, Option, Result, sym, refl, ap, ◌∙◌, subst, ap₂, subst₂, arith}
 use mathlib.Core.Path.{subst₃}
 use Rattle.std.proofs.lemmas.List.{take_at}
 use Rattle.algebra.specs.Field.{FieldData, FieldLaws}
@@ -22,19 +22,15 @@ use Rattle.ledger.proofs.Once.{one_ledger}
 use Rattle.shelf.specs.Held.{held_at}
 use Rattle.shelf.specs.Promises.{Promise}
 use Rattle.shelf.specs.declared.store.Drawer.{Drawer}
+use Rattle.shelf.specs.declared.store.Words.{Words}
 use Rattle.audit.specs.declared.entries.Entry.{Entry}
 use Rattle.audit.specs.declared.entries.Entry.TheVariants.{File, FileCard, Withdraw, Compare, Value, Card}
 use Rattle.audit.specs.declared.findings.Findings.{Findings}
 use Rattle.audit.specs.Entries.{Tables, call_of, calls_of, named, Fits, AllFit}
 use Rattle.audit.specs.Faithful.{Lent, Faithful}
 use Rattle.audit.specs.Runs.{Runs}
+use Rattle.audit.proofs.Numbered.{filed_low}
 use Rattle.audit.proofs.Steps.{same_filing, same_carding}
-
--- only drawers of the shelf hold anything
-held_low : (ds : List Drawer) (d : ℕ) (us : List (Term NetSet)) → held_at ds d ≡ Some us → d < length ds
-held_low [] d us e = let z : ◌≡◌ {A = ℕ} 0 1 = cc in absurd (omega arith)
-held_low (D ∷ ds) zero us e = omega arith
-held_low (D ∷ ds) (suc d) us e = let h = held_low ds d us e in omega arith
 
 -- an answer where nothing is due
 accepted : {A : Type 0} (m : FieldData) (n : ℕ) (L : Ledger) (c : Call) (P : A → Type 0) (r : Result A Fault) → ((e : Fault) → Due m n L c e → ⊥) → Outcome m n L c P r → (v : A) × (r ≡ Ok v) × P v
@@ -63,18 +59,13 @@ module _ (m : FieldData) (n : ℕ) (f g : Filing) (r : Result Compared Fault) wh
   tells_differ Same e t d = absurd (d t)
   tells_differ (Differ x) e t d = (x, e, t)
 
-module _ (m : FieldData) (l : FieldLaws m) (n : ℕ) (cs : List Call) (ds : List Drawer) (sixteen : length ds ≡ 16) (L : Ledger) (holds : Holds m n L (held_at ds))
+module _ (m : FieldData) (l : FieldLaws m) (n : ℕ) (cs : List Call) (ds : List Drawer) (L : Ledger) (holds : Holds m n L (held_at ds))
     (a b : ℕ) (xs : List ℕ) (T : Lent) (out : Findings) (left right : List (Term (List ℕ))) (led : Led m n cs out.refused L)
     (r1 : Right m n L (comparing a b) out.compared) (r2 : Right m n L (valuing a xs) out.value)
     (r3 : Right m n L (carding a T.first T.second T.left) (out.left, left)) (r4 : Right m n L (carding b T.first T.second T.right) (out.right, right)) where
-  stands_low : (d : ℕ) (o : Option Filing) (h : Option (List (Term NetSet))) (f : Filing) → Stands m n o h → h ≡ held_at ds d → o ≡ Some f → d ≤ 15
-  stands_low d None h f s q e = let z : ◌≡◌ {A = ℕ} 0 1 = cc in absurd (omega arith)
-  stands_low d (Some g) None f s q e = absurd s
-  stands_low d (Some g) (Some us) f s q e = let lt = held_low ds d us (sym q) in omega (arith, sixteen)
-
   -- a drawer with a filing is one of the sixteen
   shown : (d : ℕ) (f : Filing) → L d ≡ Some f → Shows L d f
-  shown d f e = record { number = stands_low d (L d) (held_at ds d) f (holds d) refl e; filled = e }
+  shown d f e = record { number = filed_low m n led d f e; filled = e }
 
   -- and lawful
   stands_lawful : (o : Option Filing) (h : Option (List (Term NetSet))) (f : Filing) → Stands m n o h → o ≡ Some f → Lawful m n f
@@ -124,19 +115,19 @@ module _ (m : FieldData) (l : FieldLaws m) (n : ℕ) (cs : List Call) (ds : List
         (subst (Polynomial m n) (sym s) A.card.polynomial, λ ys h. ap (λ (ts : List (Term (List ℕ))). card_value m ts ys) s ∙ A.card.values ys h);
   }
 
--- the same, from the run and the promises of the last calls, over fields and numbers of words that are those of the shelf made
-pub audited : {X : Type 0} (model : X → FieldData) (φ χ ψ : X) (v w n : ℕ) → φ ≡ ψ → χ ≡ ψ → v ≡ n → w ≡ n → FieldLaws (model ψ) → (cs : List Call) (xs ds : List Drawer) → length ds ≡ 16
-    → ((d : ℕ) → held_at xs d ≡ None) → (a b : ℕ) (ws : List ℕ) (T : Lent) (out : Findings) (left right : List (Term (List ℕ))) → Runs (model φ) v cs xs ds out.refused
-    → Promise (model χ) w (comparing a b) ds ds out.compared → Promise (model χ) w (valuing a ws) ds ds out.value
-    → Promise (model χ) w (carding a T.first T.second T.left) ds ds (out.left, left) → Promise (model χ) w (carding b T.first T.second T.right) ds ds (out.right, right)
-    → Faithful (model ψ) n cs a b ws T out left right
-audited {X} model φ χ ψ v w n e f p q l cs xs ds sixteen none a b ws T out left right run p1 p2 p3 p4 =
-    let m = model ψ in
+-- the same, from the run and the promises of the last calls, where the shelf was made for n words over the field f, and keeps both
+pub audited : {F : Type 0} (model : F → FieldData) (f : F) (n : ℕ) (w v : Words F) → w.field ≡ f → w.count ≡ n → v ≡ w → FieldLaws (model f) → (cs : List Call) (xs ds : List Drawer)
+    → ((d : ℕ) → held_at xs d ≡ None) → (a b : ℕ) (ws : List ℕ) (T : Lent) (out : Findings) (left right : List (Term (List ℕ))) → Runs (model w.field) w.count cs xs ds out.refused
+    → Promise (model v.field) v.count (comparing a b) ds ds out.compared → Promise (model v.field) v.count (valuing a ws) ds ds out.value
+    → Promise (model v.field) v.count (carding a T.first T.second T.left) ds ds (out.left, left) → Promise (model v.field) v.count (carding b T.first T.second T.right) ds ds (out.right, right)
+    → Faithful (model f) n cs a b ws T out left right
+audited {F} model f n w v e q k l cs xs ds none a b ws T out left right run p1 p2 p3 p4 =
+    let m = model f in
     let fresh : Holds m n no_filings (held_at xs) = λ d. subst (Stands m n None) (sym (none d)) tt in
-    let r = subst₂ (λ (x : X) (k : ℕ). Runs (model x) k cs xs ds out.refused) e p run no_filings fresh in
-    let at : (c : Call) (y : Answer c) → Promise (model χ) w c ds ds y → Right m n r.0 c y =
-    λ c y h. (subst₂ (λ (x : X) (k : ℕ). Turn (model x) k c (held_at ds) (held_at ds) y) f q h.turn r.0 r.2).0 in
-    faithful m l n cs ds sixteen r.0 r.2 a b ws T out left right r.1 (at (comparing a b) out.compared p1) (at (valuing a ws) out.value p2)
+    let r = subst₂ (λ (x : F) (j : ℕ). Runs (model x) j cs xs ds out.refused) e q run no_filings fresh in
+    let at : (c : Call) (y : Answer c) → Promise (model v.field) v.count c ds ds y → Right m n r.0 c y =
+    λ c y h. (subst₂ (λ (x : F) (j : ℕ). Turn (model x) j c (held_at ds) (held_at ds) y) (ap (λ (u : Words F). u.field) k ∙ e) (ap (λ (u : Words F). u.count) k ∙ q) h.turn r.0 r.2).0 in
+    faithful m l n cs ds r.0 r.2 a b ws T out left right r.1 (at (comparing a b) out.compared p1) (at (valuing a ws) out.value p2)
     (at (carding a T.first T.second T.left) (out.left, left) p3) (at (carding b T.first T.second T.right) (out.right, right) p4)
 
 -- tables as long as they were

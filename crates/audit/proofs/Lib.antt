@@ -1,3 +1,4 @@
 pub mod Steps
 pub mod Running
+pub mod Numbered
 pub mod Law

@@ -1,3 +1,4 @@
 pub mod Entries
-pub mod Runs
 pub mod Faithful
+pub mod Runs
+pub mod LentTables

@@ -4,7 +4,9 @@
 pub mod entries;
 pub mod findings;
 pub mod runs;
+pub mod tables;
 
 pub use entries::Entry;
 pub use findings::Findings;
 pub use runs::audit;
+pub use tables::LentTables;

@@ -9,7 +9,7 @@ ghost use Rattle.job.specs.Printed.{Printed, shown_outcome};
 
 use crate::card::{Card, ROWS};
 use crate::open::{open, prepare};
-use audit::{Entry, Findings, audit};
+use audit::{Entry, Findings, LentTables, audit};
 use bounded::Bounded;
 use cards::words::to_words;
 use fault::Fault;
@@ -47,21 +47,16 @@ fn file_and_draw(
     }; ROWS];
     let mut first = [ZERO; ROWS];
     let mut second = [ZERO; ROWS];
-    audit(
-        field,
-        words,
-        &entries,
-        0,
-        15,
-        [0; 3],
-        &mut bits,
-        &mut [],
-        &mut [],
-        &mut first,
-        &mut second,
-        rows,
-        &mut [],
-    )
+    let mut tables = LentTables {
+        work: &mut bits,
+        bits_first: &mut [],
+        bits_second: &mut [],
+        first: &mut first,
+        second: &mut second,
+        left: rows,
+        right: &mut [],
+    };
+    audit(field, words, &entries, 0, 15, [0; 3], &mut tables)
 }
 
 // The card of a job, or why there is none: the netlist is worked into bits, and these into words, with no shelf.

@@ -1,19 +1,17 @@
 -- What the calls that leave a shelf as it is do, from what their steps answer. Assumes nothing.
-use Rattle.std.proofs.Common.{◌≡◌, ℕ, ◌≤◌, min, List, [], ◌∷◌, length, get_or, replicate, None, Ok, Err, Result, sym, refl, ap, ◌∙◌, subst, arith}
+use Rattle.std.proofs.Common.{◌≡◌, ℕ, min, List, [], ◌∷◌, length, get_or, Ok, Err, Result, sym, refl, ap, ◌∙◌, subst, ap₂, arith}
+use mathlib.Core.Path.{subst₃}
 use Rattle.algebra.specs.Field.{FieldData, FieldLaws}
 use Rattle.fault.specs.declared.Fault.{Fault}
-use Rattle.fault.specs.declared.Fault.TheVariants.{DrawerEmpty}
-use Rattle.terms.specs.Terms.{blank}
 use Rattle.terms.specs.Values.{value_under, bit_at}
 use Rattle.terms.specs.declared.Term.{Term}
 use Rattle.terms.specs.declared.nets.NetSet.{NetSet}
 use Rattle.terms.specs.BothKinds.{as_three}
 use Rattle.forms.specs.Differences.{LeastDifference}
 use Rattle.forms.specs.Inputs.{Width, InputOf, InputIs, ValueIs}
-use Rattle.cards.specs.Sums.{card_kind}
 use Rattle.cards.specs.Working.{CardAnswered}
 use Rattle.ledger.specs.Drawers.{Held, Itself, Told, Drawn}
-use Rattle.ledger.specs.Rules.{Shows, ShowsNothing, Refused, beyond, empty, comparing, carding, compare_first_empty, compare_second_empty, card_drawer, card_full}
+use Rattle.ledger.specs.Rules.{Shows, Refused, carding, card_full}
 use Rattle.ledger.specs.declared.Compared.TheVariants.{Differ}
 
 -- the words of a field's codes have a width
@@ -34,28 +32,12 @@ told_apart k us vs s xs a b w least i x y =
       right = y.right w ∙ ap (λ (zs : List ℕ). value_under (bit_at k zs) vs) three;
     }
 
--- a drawer among the sixteen that shows nothing is empty
-nothing_low : {at : Held} {d : ℕ} {e : Fault} → d ≤ 15 → ShowsNothing at d e → (e ≡ DrawerEmpty) × (at d ≡ None)
-nothing_low low (beyond x) = absurd (omega arith)
-nothing_low low (empty x y) = (refl, y)
-
-module _ (m : FieldData) (n : ℕ) (at : Held) (a b : ℕ) (la : a ≤ 15) (lb : b ≤ 15) where
-  pub first_nothing : (e : Fault) → ShowsNothing at a e → Refused m n at Itself (comparing a b) e
-  first_nothing e x = let y = nothing_low la x in subst (Refused m n at Itself (comparing a b)) (sym y.0) (compare_first_empty a b la lb y.1)
-
-  pub second_nothing : (us : List (Term NetSet)) (e : Fault) → Shows at a us → ShowsNothing at b e → Refused m n at Itself (comparing a b) e
-  second_nothing us e s x = let y = nothing_low lb x in subst (Refused m n at Itself (comparing a b)) (sym y.0) (compare_second_empty a b us la lb s.filled y.1)
-
--- the card of what a drawer shows
+-- the card of what a drawer shows, over as many words and in tables as long as they are
 pub drawn : (m : FieldData) (n : ℕ) (at at' : Held) (d p s c : ℕ) (us : List (Term NetSet)) → Shows at d us → (r : Result ℕ Fault) (table : List (Term (List ℕ))) → length table ≡ c
-    → CardAnswered m n (min p s) c us table r → Drawn m n at at' d p s c r table
-drawn m n at at' d p s c us shown (Ok j) table long a = (us, shown, a, long)
-drawn m n at at' d p s c us shown (Err e) table long a =
-    let w = a.worked in
-    (subst (Refused m n at Itself (carding d p s c)) (sym w.2) (card_full d p s c us shown us refl a.dual a.duals w.0 w.1), w.3)
-
--- a refused card
-pub undrawn : (m : FieldData) (n : ℕ) (at at' : Held) (d p s c : ℕ) (r : Result ℕ Fault) (x e : Fault) (table : List (Term (List ℕ))) → r ≡ Err x → x ≡ e → ShowsNothing at d e
-    → table ≡ replicate c (blank (card_kind m n)) → Drawn m n at at' d p s c r table
-undrawn m n at at' d p s c r x e table h q none b =
-    subst (λ (o : Result ℕ Fault). Drawn m n at at' d p s c o table) (sym (h ∙ ap (λ (y : Fault). Err y) q)) (card_drawer d p s c none, b)
+    → {n' p' s' c' : ℕ} → n' ≡ n → p' ≡ p → s' ≡ s → c' ≡ c → CardAnswered m n' (min p' s') c' us table r → Drawn m n at at' d p s c r table
+drawn m n at at' d p s c us shown r table long same_n same_p same_s same_c a =
+    by r (subst₃ (λ (x y z : ℕ). CardAnswered m x y z us table r) same_n (ap₂ min same_p same_s) same_c a)
+  where
+    by : (r : Result ℕ Fault) → CardAnswered m n (min p s) c us table r → Drawn m n at at' d p s c r table
+    by (Ok j) a = (us, shown, a, long)
+    by (Err e) a = let w = a.worked in (subst (Refused m n at Itself (carding d p s c)) (sym w.2) (card_full d p s c us shown us refl a.dual a.duals w.0 w.1), w.3)

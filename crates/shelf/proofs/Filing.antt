@@ -1,7 +1,6 @@
 -- What filing does, from what its steps answer. Assumes nothing.
-use Rattle.std.proofs.Common.{◌≡◌, ℕ, zero, suc, ◌-◌, ◌≤◌, min, true, List, length, take, Some, Ok, Err, Result, sym, refl, ap, ◌∙◌, subst, arith, length-take-le}
-use lib.Seq.{take-append-le}
-use Rattle.std.proofs.lemmas.List.{take_all}
+use Rattle.std.proofs.Common.{◌≡◌, ℕ, ◌≤◌, min, true, List, length, take, Some, Ok, sym, ap, ◌∙◌, subst, arith, length-take-le}
+use Rattle.std.proofs.lemmas.List.{take_at}
 use Rattle.algebra.specs.Field.{FieldData}
 use Rattle.fault.specs.declared.Fault.{Fault}
 use Rattle.fault.specs.declared.Fault.TheVariants.{BadCardRow}
@@ -15,35 +14,24 @@ use Rattle.gates.specs.Answers as gates
 use Rattle.cards.specs.BitsWorking.{BitsAnswered}
 use Rattle.cards.specs.Law.{Polynomial}
 use Rattle.cards.specs.Working.{word_count}
-use Rattle.ledger.specs.Drawers.{Held, Itself, SameHeld, Puts, Ended, TextFiled, RowsFiled}
-use Rattle.ledger.specs.Rules.{Call, card_filing, Free, BadRow, Refused, rows_bad}
+use Rattle.ledger.specs.Drawers.{Held, Itself, Puts, TextFiled, RowsFiled}
+use Rattle.ledger.specs.Rules.{card_filing, Free, BadRow, Refused, rows_bad}
 use Rattle.shelf.specs.Formed.{formed}
 use Rattle.shelf.proofs.Formed.{form_formed}
 
--- a refusal that is passed on
-pub ended : {A : Type 0} (m : FieldData) (n : ℕ) (at at' : Held) (c : Call) (P : A → Type 0) (r : Result A Fault) (x e : Fault) → r ≡ Err x → x ≡ e → Refused m n at Itself c e → SameHeld at at'
-    → Ended m n at at' c P r
-ended {A} m n at at' c P r x e p q h s = subst (Ended m n at at' c P) (sym (p ∙ ap (λ (y : Fault). Err y) q)) (h, s)
-
 -- the terms in the first rows of a table
-front : (cap : ℕ) (rows us : List (Term NetSet)) (n : ℕ) → rows ≡ padded net_model cap us → n ≡ length us → take (n - 0) rows ≡ us
-front cap rows us n e h =
-    let z : n - 0 ≡ length us = omega arith in
-    let l : length us ≤ length us = omega arith in
-    ap (λ (i : ℕ). take i rows) z ∙ ap (take (length us)) e ∙ rw take-append-le (take_all (length us) us l)
+front : (cap : ℕ) (rows us : List (Term NetSet)) (n : ℕ) → rows ≡ padded net_model cap us → n ≡ length us → take n rows ≡ us
+front cap rows us n e h = ap (take n) e ∙ take_at us _ n (sym h)
 
 -- the bit form of a netlist, where it stands in the work table
 module _ (c : Circuit) (w j : ℕ) (work : List (Term NetSet)) (a : gates.Answered c w (Ok j) work) where
-  is_form : take (j - 0) work ≡ a.0
+  is_form : take j work ≡ a.0
   is_form = front w work a.0 j a.3 a.2
 
-  pub form_few : length (take (j - 0) work) ≤ 256
-  form_few = subst (λ (us : List (Term NetSet)). length us ≤ 256) (sym is_form) a.1.few
-
-  pub form_sorted : formed (take (j - 0) work) ≡ true
+  pub form_sorted : formed (take j work) ≡ true
   form_sorted = ap formed is_form ∙ form_formed a.0 (record { own = a.1.form.own; falling = a.1.form.falling; nonzero = a.1.form.nonzero })
 
-  pub text_filed : (m : FieldData) (n k : ℕ) (at at' : Held) (d : ℕ) (bytes : List ℕ) → k ≡ m.width → Free at d → reader.Accepted n k bytes c → Puts at d (Some (take (j - 0) work)) at'
+  pub text_filed : (m : FieldData) (n k : ℕ) (at at' : Held) (d : ℕ) (bytes : List ℕ) → k ≡ m.width → Free at d → reader.Accepted n k bytes c → Puts at d (Some (take j work)) at'
       → TextFiled m n at at' d bytes w j
   text_filed m n k at at' d bytes e f r p = record {
     free = f;
@@ -57,27 +45,17 @@ module _ (c : Circuit) (w j : ℕ) (work : List (Term NetSet)) (a : gates.Answer
 
 -- one to three words count as they are
 pub counted : (n : ℕ) → 1 ≤ n → n ≤ 3 → word_count n ≡ n
-counted zero l h = absurd (omega arith)
-counted (suc zero) l h = refl
-counted (suc (suc zero)) l h = refl
-counted (suc (suc (suc zero))) l h = refl
-counted (suc (suc (suc (suc n)))) l h = absurd (omega arith)
+counted n l h = omega arith
 
 -- the bit form of card rows, where it stands in the result table
 module _ (m : FieldData) (n p s r : ℕ) (ts : List (Term (List ℕ))) (lawful : Polynomial m n ts) (j : ℕ) (result : List (Term NetSet)) (a : BitsAnswered m n (min p s) r ts result (Ok j)) where
-  same_front : take (j - 0) result ≡ take j result
-  same_front = let z : j - 0 ≡ j = omega arith in ap (λ (i : ℕ). take i result) z
-
   long : length (take j result) ≡ j
   long = length-take-le j result a.worked.2.within
 
-  pub rows_few : length (take (j - 0) result) ≤ 256
-  rows_few = let e = ap length same_front in omega (arith, e, long, a.worked.1)
+  pub rows_sorted : formed (take j result) ≡ true
+  rows_sorted = let b = (a.made lawful).bit_form in form_formed (take j result) (record { own = b.sets; falling = b.falling; nonzero = b.nonzero })
 
-  pub rows_sorted : formed (take (j - 0) result) ≡ true
-  rows_sorted = let b = (a.made lawful).bit_form in ap formed same_front ∙ form_formed (take j result) (record { own = b.sets; falling = b.falling; nonzero = b.nonzero })
-
-  pub rows_filed : (at at' : Held) (d : ℕ) → Free at d → Puts at d (Some (take (j - 0) result)) at' → RowsFiled m n at at' d ts p s r j
+  pub rows_filed : (at at' : Held) (d : ℕ) → Free at d → Puts at d (Some (take j result)) at' → RowsFiled m n at at' d ts p s r j
   rows_filed at at' d f h = record {
     free = f;
     polynomial = lawful;
@@ -86,7 +64,7 @@ module _ (m : FieldData) (n p s r : ℕ) (ts : List (Term (List ℕ))) (lawful :
     few = omega (arith, long, a.worked.1);
     is_form = a.made lawful;
     count = sym long;
-    held = subst (λ (us : List (Term NetSet)). Puts at d (Some us) at') same_front h;
+    held = h;
   }
 
 -- a bad row

@@ -9,5 +9,5 @@ use Rattle.shelf.specs.declared.store.Drawer.{Drawer}
 use Rattle.shelf.specs.Held.{held_at}
 use Rattle.shelf.specs.Promises.{Promise}
 
-pub promise : (m : FieldData) → FieldLaws m → (n : ℕ) → n ≤ 3 → (c : Call) (before after : List Drawer) (a : Answer c) → Does m n (held_at before) (held_at after) c a → Promise m n c before after a
-promise m l n few c before after a x = record { does = x; turn = turns m l n few (held_at before) (held_at after) c a x }
+pub promise : {m : FieldData} {n : ℕ} {c : Call} {before after : List Drawer} {a : Answer c} → FieldLaws m → n ≤ 3 → Does m n (held_at before) (held_at after) c a → Promise m n c before after a
+promise l few x = record { does = x; turn = turns _ l _ few _ _ _ _ x }

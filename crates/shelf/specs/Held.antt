@@ -1,13 +1,14 @@
 -- What the drawers of a shelf hold. Assumes nothing.
-use Rattle.std.specs.Prelude.{ℕ, zero, suc, List, [], ◌∷◌, take, Some, None, Option}
+use Rattle.std.specs.Prelude.{ℕ, zero, suc, List, [], ◌∷◌, Some, None, Option}
 use Rattle.terms.specs.declared.Term.{Term}
 use Rattle.terms.specs.declared.nets.NetSet.{NetSet}
+use Rattle.bounded.specs.Items.{items}
 use Rattle.shelf.specs.declared.store.Drawer.{Drawer}
 use Rattle.shelf.specs.declared.store.Form.{Form}
 
 -- the terms of a form, where there is one
 abbrev pub terms_of : Option Form → Option (List (Term NetSet))
-terms_of (Some f) = Some (take f.len f.terms)
+terms_of (Some f) = Some (items f.terms)
 terms_of None = None
 
 -- the terms that a drawer holds, where it is filled

@@ -1,5 +1,5 @@
 -- What a card row has to have by itself. Assumes nothing.
-use Rattle.std.specs.Prelude.{◌≡◌, ℕ, ◌<◌, true, List, [], ◌∷◌}
+use Rattle.std.specs.Prelude.{◌≡◌, ℕ, ◌<◌, true, List}
 use Rattle.terms.specs.Numbers.{inside}
 use Rattle.terms.specs.declared.Term.{Term}
 
@@ -8,7 +8,3 @@ pub record Lawful (q : ℕ) (tops : List ℕ) (row : Term (List ℕ)) : Type 0 w
   pub nonzero : 0 < row.code
   pub code : row.code < q
   pub own : inside tops row.mono ≡ true
-
--- the row that stands where there is no term
-abbrev pub zero_row : Term (List ℕ)
-zero_row = record { code = 0; mono = 0 ∷ (0 ∷ (0 ∷ [])) }

@@ -1,7 +1,9 @@
 // What a shelf holds.
-ghost use Rattle.std.specs.Prelude.{◌≡◌, ◌≤◌, true, length, take};
+ghost use Rattle.std.specs.Prelude.{◌≡◌, ◌≤◌, true};
+ghost use Rattle.bounded.specs.Items.{items};
 ghost use Rattle.shelf.specs.Formed.{formed};
 
+use bounded::Bounded;
 use terms::Term;
 use terms::nets::NetSet;
 
@@ -10,14 +12,11 @@ mod drawers;
 mod filing;
 mod rows;
 
-// A bit form: the first `len` terms, that is falling sets with nonzero codes.
+// A bit form: falling sets with nonzero codes.
 #[derive(Clone, Copy)]
 pub struct Form {
-    len: usize,
-    terms: [Term<NetSet>; 256],
-    ghost few: { len ≤ 256 },
-    ghost all: { length terms ≡ 256 },
-    ghost sorted: { formed (take len terms) ≡ true },
+    terms: Bounded<Term<NetSet>, 256>,
+    ghost sorted: { formed (items terms) ≡ true },
 }
 
 // A drawer: what is filed in it, or nothing.
@@ -26,13 +25,18 @@ pub struct Drawer {
     form: Option<Form>,
 }
 
-// Drawers 0 to 15, over a field and a number of input words.
+// The input words: their number, and the field that their codes are of.
+#[derive(Drop)]
+pub struct Words<F> {
+    field: F,
+    count: usize,
+    ghost some: { 1 ≤ count },
+    ghost few: { count ≤ 3 },
+}
+
+// Drawers 0 to 15, over a number of input words.
 #[derive(Drop)]
 pub struct Shelf<F> {
-    field: F,
-    words: usize,
+    words: Words<F>,
     drawers: [Drawer; 16],
-    ghost some: { 1 ≤ words },
-    ghost few: { words ≤ 3 },
-    ghost sixteen: { length drawers ≡ 16 },
 }

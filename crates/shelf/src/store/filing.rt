@@ -7,9 +7,8 @@ ghost use Rattle.ledger.specs.Rules.{filing, card_filing, withdrawing};
 ghost use Rattle.shelf.specs.Held.{held_at};
 ghost use Rattle.shelf.specs.Promises.{Promise};
 
-use super::drawers::{check_free, clear_at, fill_at, terms_at};
-use super::rows::check_rows;
-use super::{Drawer, Shelf};
+use super::rows::clear_tables;
+use super::{Drawer, Shelf, Words};
 use cards::bits::to_bits;
 use fault::Fault;
 use field::Field;
@@ -22,12 +21,14 @@ impl<F: Field> Shelf<F> {
     // A shelf over the field, for `n` input words; below 1 counts as 1, above 3 as 3. Its drawers are empty.
     pub fn new(field: F, n: usize) -> Self
         ensures empty { (d : ℕ) → held_at result.drawers d ≡ None }
-        ensures field { result.field ≡ field }
-        ensures words { result.words ≡ word_count n }
+        ensures field { result.words.field ≡ field }
+        ensures words { result.words.count ≡ word_count n }
     {
         Shelf {
-            field,
-            words: n.max(1).min(3),
+            words: Words {
+                field,
+                count: n.clamp(1, 3),
+            },
             drawers: [Drawer::empty(); 16],
         }
     }
@@ -39,14 +40,14 @@ impl<F: Field> Shelf<F> {
         text: &[u8],
         work: &mut [Term<NetSet>],
     ) -> Result<usize, Fault>
-        ensures promise { Promise (F.model self.old.field) self.old.words (filing drawer text.now (length work.old)) self.old.drawers self.new.drawers result }
-        ensures field { self.new.field ≡ self.old.field }
+        ensures promise { Promise (F.model self.old.words.field) self.old.words.count (filing drawer text.now (length work.old)) self.old.drawers self.new.drawers result }
         ensures words { self.new.words ≡ self.old.words }
     {
-        check_free(&self.drawers, drawer)?;
-        let net = read(text, self.words as u8, self.field.width() as u8)?;
+        self.check_free(drawer)?;
+        let words = &self.words;
+        let net = read(text, words.count as u8, words.field.width() as u8)?;
         let count = bit_form(&net, work)?;
-        fill_at(&mut self.drawers, drawer, &work[0..count]);
+        self.drawers[drawer].fill(&work[..count]);
         Ok(count)
     }
 
@@ -57,8 +58,7 @@ impl<F: Field> Shelf<F> {
         text: &[u8],
         work: &mut [Term<NetSet>],
     ) -> Result<usize, Fault>
-        ensures promise { Promise (F.model self.old.field) self.old.words (filing drawer text.now (length work.old)) self.old.drawers self.new.drawers result }
-        ensures field { self.new.field ≡ self.old.field }
+        ensures promise { Promise (F.model self.old.words.field) self.old.words.count (filing drawer text.now (length work.old)) self.old.drawers self.new.drawers result }
         ensures words { self.new.words ≡ self.old.words }
         ensures work { work.new ≡ replicate (length work.old) (blank net_model) }
     {
@@ -74,16 +74,16 @@ impl<F: Field> Shelf<F> {
         rows: &[Term<[u16; 3]>],
         first: &mut [Term<NetSet>],
         second: &mut [Term<NetSet>],
-        res: &mut [Term<NetSet>],
+        bits: &mut [Term<NetSet>],
     ) -> Result<usize, Fault>
-        ensures promise { Promise (F.model self.old.field) self.old.words (card_filing drawer rows.now (length first.old) (length second.old) (length res.old)) self.old.drawers self.new.drawers result }
-        ensures field { self.new.field ≡ self.old.field }
+        ensures promise { Promise (F.model self.old.words.field) self.old.words.count (card_filing drawer rows.now (length first.old) (length second.old) (length bits.old)) self.old.drawers self.new.drawers result }
         ensures words { self.new.words ≡ self.old.words }
     {
-        check_free(&self.drawers, drawer)?;
-        check_rows(&self.field, self.words, rows)?;
-        let count = to_bits(&self.field, self.words, rows, first, second, res)?;
-        fill_at(&mut self.drawers, drawer, &res[0..count]);
+        self.check_free(drawer)?;
+        let words = &self.words;
+        words.check_rows(rows)?;
+        let count = to_bits(&words.field, words.count, rows, first, second, bits)?;
+        self.drawers[drawer].fill(&bits[..count]);
         Ok(count)
     }
 
@@ -94,38 +94,26 @@ impl<F: Field> Shelf<F> {
         rows: &[Term<[u16; 3]>],
         first: &mut [Term<NetSet>],
         second: &mut [Term<NetSet>],
-        res: &mut [Term<NetSet>],
+        bits: &mut [Term<NetSet>],
     ) -> Result<usize, Fault>
-        ensures promise { Promise (F.model self.old.field) self.old.words (card_filing drawer rows.now (length first.old) (length second.old) (length res.old)) self.old.drawers self.new.drawers result }
-        ensures field { self.new.field ≡ self.old.field }
+        ensures promise { Promise (F.model self.old.words.field) self.old.words.count (card_filing drawer rows.now (length first.old) (length second.old) (length bits.old)) self.old.drawers self.new.drawers result }
         ensures words { self.new.words ≡ self.old.words }
         ensures first { first.new ≡ replicate (length first.old) (blank net_model) }
         ensures second { second.new ≡ replicate (length second.old) (blank net_model) }
-        ensures res { res.new ≡ replicate (length res.old) (blank net_model) }
+        ensures bits { bits.new ≡ replicate (length bits.old) (blank net_model) }
     {
-        let answer = self.enter_card(drawer, rows, first, second, res);
-        clear_rows(&Nets, first);
-        clear_rows(&Nets, second);
-        clear_rows(&Nets, res);
+        let answer = self.enter_card(drawer, rows, first, second, bits);
+        clear_tables(&Nets, first, second, bits);
         answer
-    }
-
-    // Empties the drawer, where it is filled.
-    fn take_out(&mut self, drawer: usize) -> Result<usize, Fault>
-        ensures promise { Promise (F.model self.old.field) self.old.words (withdrawing drawer) self.old.drawers self.new.drawers result }
-        ensures field { self.new.field ≡ self.old.field }
-        ensures words { self.new.words ≡ self.old.words }
-    {
-        let _ = terms_at(&self.drawers, drawer)?;
-        Ok(clear_at(&mut self.drawers, drawer))
     }
 
     // Empties a drawer, and answers the number of terms that it held.
     pub fn withdraw(&mut self, drawer: usize) -> Result<usize, Fault>
-        ensures promise { Promise (F.model self.old.field) self.old.words (withdrawing drawer) self.old.drawers self.new.drawers result }
-        ensures field { self.new.field ≡ self.old.field }
+        ensures promise { Promise (F.model self.old.words.field) self.old.words.count (withdrawing drawer) self.old.drawers self.new.drawers result }
         ensures words { self.new.words ≡ self.old.words }
     {
-        self.take_out(drawer)
+        let count = self.terms(drawer)?.len();
+        self.drawers[drawer].clear();
+        Ok(count)
     }
 }

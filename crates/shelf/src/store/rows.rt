@@ -1,99 +1,72 @@
 // Card rows and input words that are handed in.
-ghost use Rattle.std.specs.Prelude.{◌≡◌, ℕ, ◌-◌, ◌&&◌, [], ◌∷◌, length, replicate, if◌then◌else◌, MatchBool, MatchResult, nat_lt};
-ghost use Rattle.algebra.specs.Field.{size};
+ghost use Rattle.std.specs.Prelude.{◌≡◌, ℕ, [], ◌∷◌, length, replicate, IsTrue, MatchBool, MatchOption, MatchResult};
 ghost use Rattle.fault.specs.declared.Fault.TheVariants.{BadCardRow};
-ghost use Rattle.terms.specs.Exps.{tops_for};
-ghost use Rattle.terms.specs.Numbers.{inside};
+ghost use Rattle.terms.specs.Numbers.{lex};
+ghost use Rattle.terms.specs.Terms.{blank};
 ghost use Rattle.cards.specs.Law.{IsInput, Polynomial};
 ghost use Rattle.ledger.specs.Rules.{BadRow};
-ghost use Rattle.shelf.specs.Rows.{Lawful, zero_row};
+ghost use Rattle.shelf.specs.Rows.{Lawful};
 
+use super::Words;
 use fault::Fault;
 use field::Field;
 use terms::exps::Exps;
 use terms::{Kind, Term, clear_rows};
 
-// The largest number at place `w` of three, where there are `n` words.
-fn largest(top: u16, w: usize, n: usize) -> u16
-    ensures { result ≡ (if nat_lt w n then top else 0) }
-{
-    if w < n { top } else { 0 }
-}
-
-// The largest numbers that three words, or three exponents, may be: q - 1 for each of `n` words, and 0 past them.
-fn tops_of<F: Field>(field: &F, n: usize) -> [u16; 3]
-    ensures { result ≡ tops_for (size (F.model field.now)) n }
-{
-    let top = field.order() - 1;
-    [largest(top, 0, n), largest(top, 1, n), largest(top, 2, n)]
-}
-
-// Whether each number is at most the largest at its place.
-fn is_inside(tops: [u16; 3], numbers: [u16; 3]) -> bool
-    ensures { result ≡ inside tops numbers }
-{
-    let [a, b, c] = tops;
-    let [x, y, z] = numbers;
-    if x > a {
-        return false;
-    }
-    if y > b {
-        return false;
-    }
-    z <= c
-}
-
-// Whether three words are an input of `n` words over the field.
-pub fn is_input<F: Field>(field: &F, n: usize, words: [u16; 3]) -> bool
-    ensures { MatchBool result (IsInput (F.model field.now) n words) (IsInput (F.model field.now) n words → ⊥) }
-{
-    is_inside(tops_of(field, n), words)
-}
-
 // Whether a row has a code of the field that is not 0, and exponents up to the largest.
-fn is_lawful(q: u16, tops: [u16; 3], row: Term<[u16; 3]>) -> bool
-    ensures { MatchBool result (Lawful q tops row) (Lawful q tops row → ⊥) }
+fn is_lawful(q: u16, kind: &Exps, row: &Term<[u16; 3]>) -> bool
+    ensures { MatchBool result (Lawful q kind.now.tops row.now) (Lawful q kind.now.tops row.now → ⊥) }
 {
-    if row.code == 0 {
-        return false;
-    }
-    if row.code >= q {
-        return false;
-    }
-    is_inside(tops, row.mono)
+    row.code != 0 && row.code < q && kind.allows(row.mono)
 }
 
-// Whether the rows are a polynomial in `n` words; else the first row with which they stop being one.
-pub fn check_rows<F: Field>(field: &F, n: usize, rows: &[Term<[u16; 3]>]) -> Result<(), Fault>
-    ensures { MatchResult result (λ _. Polynomial (F.model field.now) n rows.now) (λ e. (i : ℕ) × (e ≡ BadCardRow i) × BadRow (F.model field.now) n rows.now i) }
+// Whether exponents stand below those of the row before, where there is one.
+fn is_below(kind: &Exps, mono: [u16; 3], before: Option<[u16; 3]>) -> bool
+    ensures { MatchOption before (IsTrue result) (λ high. result ≡ lex mono high) }
 {
-    let q = field.order();
-    let tops = tops_of(field, n);
-    let kind = Exps::new(tops);
-    for i in 0..rows.len() {
-        let row = rows[i];
-        if !is_lawful(q, tops, row) {
-            return Err(Fault::BadCardRow(i));
-        }
-        if i > 0 && !kind.less(row.mono, rows[i - 1].mono) {
-            return Err(Fault::BadCardRow(i));
-        }
+    match before {
+        Some(high) => kind.less(mono, high),
+        None => true,
     }
-    Ok(())
+}
+
+impl<F: Field> Words<F> {
+    // Whether three words are an input.
+    pub(super) fn is_input(&self, words: [u16; 3]) -> bool
+        ensures { MatchBool result (IsInput (F.model self.now.field) self.now.count words) (IsInput (F.model self.now.field) self.now.count words → ⊥) }
+    {
+        Exps::of_words(self.field.order(), self.count).allows(words)
+    }
+
+    // Whether the rows are a polynomial in the words; else the first row with which they stop being one.
+    pub(super) fn check_rows(&self, rows: &[Term<[u16; 3]>]) -> Result<(), Fault>
+        ensures { MatchResult result (λ _. Polynomial (F.model self.now.field) self.now.count rows.now) (λ e. (i : ℕ) × (e ≡ BadCardRow i) × BadRow (F.model self.now.field) self.now.count rows.now i) }
+    {
+        let q = self.field.order();
+        let kind = Exps::of_words(q, self.count);
+        let mut before = None;
+        for (i, row) in rows.iter().enumerate() {
+            if !is_lawful(q, &kind, row) || !is_below(&kind, row.mono, before) {
+                return Err(Fault::BadCardRow(i));
+            }
+            before = Some(row.mono);
+        }
+        Ok(())
+    }
 }
 
 // Makes every row of three tables a zero row.
-pub fn clear_tables(
-    first: &mut [Term<[u16; 3]>],
-    second: &mut [Term<[u16; 3]>],
-    third: &mut [Term<[u16; 3]>],
+pub fn clear_tables<M: Copy, K: Kind<M>>(
+    kind: &K,
+    first: &mut [Term<M>],
+    second: &mut [Term<M>],
+    third: &mut [Term<M>],
 )
-    ensures first { first.new ≡ replicate (length first.old) zero_row }
-    ensures second { second.new ≡ replicate (length second.old) zero_row }
-    ensures third { third.new ≡ replicate (length third.old) zero_row }
+    ensures first { first.new ≡ replicate (length first.old) (blank (K.model kind.now)) }
+    ensures second { second.new ≡ replicate (length second.old) (blank (K.model kind.now)) }
+    ensures third { third.new ≡ replicate (length third.old) (blank (K.model kind.now)) }
 {
-    let kind = Exps::new([0; 3]);
-    clear_rows(&kind, first);
-    clear_rows(&kind, second);
-    clear_rows(&kind, third);
+    clear_rows(kind, first);
+    clear_rows(kind, second);
+    clear_rows(kind, third);
 }
