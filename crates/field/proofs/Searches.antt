@@ -17,7 +17,7 @@ pub record Told (r : Bool) (a b : ℕ) (P : ℕ → Type 0) : Type 0 where
 
 pub any_tells : {F : Type 0} {g : Mut F (ℕ × Unit {0}) Bool} (s u : Range ℕ) (f : F) (r : Bool) (P : ℕ → Type 0)
     → (xs : List ℕ) × (o : Option ℕ) × (j : F) × YieldsThen nat_range_steps s xs o u × FoldsTo (λ p x q. Called g p (x, tt) false q) f xs j
-        × MatchOption o (r ≡ false) (λ x. (r ≡ true) × ((h : F) × Called g j (x, tt) true h))
+    × MatchOption o (r ≡ false) (λ x. (r ≡ true) × ((h : F) × Called g j (x, tt) true h))
     → ((x : ℕ) (q : F) → Called g f (x, tt) true q → P x) → ((x : ℕ) (q : F) → Called g f (x, tt) false q → (q ≡ f) × (P x → ⊥)) → Told r s.start s.end P
 any_tells s u f r P ran at_true at_false = by r (cases_from_any u f r P (λ x. P x → ⊥) ran (YieldsList-from_range s.start s.end _ refl refl) at_true at_false)
   where

@@ -1,14 +1,14 @@
 // Prints tables of the fields; `stdout` has them as they are published, or as tools/tables.py finds them by polynomials.
 #![tactic(auto)]
 
+use anyhow::anyhow;
+use fault::Fault;
 use field::Field;
 use field::dual::{duals, trace};
 use field::log::Log;
 use field::normal::Normal;
 use field::shift::Shift;
 use field::tower::Tower;
-
-use anyhow::anyhow;
 
 fn heading(rt: &HostRuntime, name: &str) -> anyhow::Result<()> {
     println!(rt; "== {name}")?;
@@ -54,18 +54,29 @@ fn modulo(p: u16) -> anyhow::Result<Shift> {
     Shift::new(p).map_err(|e| anyhow!("{e}"))
 }
 
-fn shift(rt: &HostRuntime, p: u16) -> anyhow::Result<()> {
-    match Shift::new(p) {
-        Ok(f) => {
-            println!(rt; "== polynomials modulo {p}")?;
-            products(rt, &f)?;
-            elements(rt, &f)
-        }
+// What `print` writes of a field that is made, or why it is refused.
+fn shown<F, P: FnOnce(F) -> anyhow::Result<()>>(
+    rt: &HostRuntime,
+    made: Result<F, Fault>,
+    print: P,
+) -> anyhow::Result<()>
+    requires { P.IsAlwaysCallable print }
+{
+    match made {
+        Ok(f) => print(f),
         Err(e) => {
             println!(rt; "{e}")?;
             Ok(())
         }
     }
+}
+
+fn shift(rt: &HostRuntime, p: u16) -> anyhow::Result<()> {
+    shown(rt, Shift::new(p), |f| {
+        println!(rt; "== polynomials modulo {p}")?;
+        products(rt, &f)?;
+        elements(rt, &f)
+    })
 }
 
 // The multiplicative inverses modulo 283, as the AES standard's S-box uses them, and two of its worked products.
@@ -100,23 +111,12 @@ fn reed_solomon(rt: &HostRuntime) -> anyhow::Result<()> {
 // A tower, and a tower over it where `upper` is a constant of it.
 fn tower<B: Field>(rt: &HostRuntime, b: &B, nu: u16, upper: u16) -> anyhow::Result<()> {
     println!(rt; "== tower with constant {nu}")?;
-    let t = match Tower::over(b, nu) {
-        Ok(t) => t,
-        Err(e) => {
-            println!(rt; "{e}")?;
-            return Ok(());
-        }
-    };
-    products(rt, &t)?;
-    elements(rt, &t)?;
-    println!(rt; "== tower over that with constant {upper}")?;
-    match Tower::over(&t, upper) {
-        Ok(u) => elements(rt, &u),
-        Err(e) => {
-            println!(rt; "{e}")?;
-            Ok(())
-        }
-    }
+    shown(rt, Tower::over(b, nu), |t| {
+        products(rt, &t)?;
+        elements(rt, &t)?;
+        println!(rt; "== tower over that with constant {upper}")?;
+        shown(rt, Tower::over(&t, upper), |u| elements(rt, &u))
+    })
 }
 
 fn towers(rt: &HostRuntime) -> anyhow::Result<()> {

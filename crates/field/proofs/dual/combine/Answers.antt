@@ -24,22 +24,22 @@ module _ (m : FieldData) (l : FieldLaws m) (columns : List ℕ) (x n : ℕ) (som
 
 pub loop-i-preserved-then-x-i-eq1 : goal.loop-i-preserved-then-x-i-eq1
 loop-i-preserved-then-x-i-eq1 g c =
-  let m = g.F.Field.model c.args.f.now in
-  let l = g.met.F.Field.holds c.args.f.now in
-  let s = c.in-Some.ensures.steps in
-  let inv = c.loop-i.invariant in
-  let n = (zip_first c.loop-i.i-iterator).start in
-  let some : n < length c.args.columns.now = omega (arith, l.wide) in
-  let h = stepped m l c.args.columns.now c.args.x n some c.in-Some.column.now _ _ _ _ _ (sym inv.2 ∙ s.1) s.0.1.1 s.0.1.2 inv.3 (inl (c.if-x-i-eq1.true, refl)) in
-  (s.0.0 ∙ inv.0, omega (arith, s), h.0, h.1)
+    let m = g.F.Field.model c.args.f.now in
+    let l = g.met.F.Field.holds c.args.f.now in
+    let s = c.in-Some.ensures.steps in
+    let inv = c.loop-i.invariant in
+    let n = (zip_first c.loop-i.i-iterator).start in
+    let some : n < length c.args.columns.now = omega (arith, l.wide) in
+    let h = stepped m l c.args.columns.now c.args.x n some c.in-Some.column.now _ _ _ _ _ (sym inv.2 ∙ s.1) s.0.1.1 s.0.1.2 inv.3 (inl (c.if-x-i-eq1.true, refl)) in
+    (s.0.0 ∙ inv.0, omega (arith, s), h.0, h.1)
 
 pub loop-i-preserved : goal.loop-i-preserved
 loop-i-preserved g c =
-  let m = g.F.Field.model c.args.f.now in
-  let l = g.met.F.Field.holds c.args.f.now in
-  let s = c.in-Some.ensures.steps in
-  let inv = c.loop-i.invariant in
-  let n = (zip_first c.loop-i.i-iterator).start in
-  let some : n < length c.args.columns.now = omega (arith, l.wide) in
-  let h = stepped m l c.args.columns.now c.args.x n some c.in-Some.column.now _ _ _ _ _ (sym inv.2 ∙ s.1) s.0.1.1 s.0.1.2 inv.3 (inr (c.if-x-i-eq1.false, refl)) in
-  (s.0.0 ∙ inv.0, omega (arith, s), h.0, h.1)
+    let m = g.F.Field.model c.args.f.now in
+    let l = g.met.F.Field.holds c.args.f.now in
+    let s = c.in-Some.ensures.steps in
+    let inv = c.loop-i.invariant in
+    let n = (zip_first c.loop-i.i-iterator).start in
+    let some : n < length c.args.columns.now = omega (arith, l.wide) in
+    let h = stepped m l c.args.columns.now c.args.x n some c.in-Some.column.now _ _ _ _ _ (sym inv.2 ∙ s.1) s.0.1.1 s.0.1.2 inv.3 (inr (c.if-x-i-eq1.false, refl)) in
+    (s.0.0 ∙ inv.0, omega (arith, s), h.0, h.1)
