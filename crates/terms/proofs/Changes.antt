@@ -1,11 +1,16 @@
 -- The set of one net, a net taken out of a set, and the greatest net of a set. Assumes nothing.
-use Rattle.std.proofs.Common.{◌≡◌, ℕ, zero, suc, ◌+◌, ◌-◌, ◌*◌, ◌/◌, ◌%◌, ◌^◌, ◌<◌, ◌≤◌, Bool, true, false, cond, not, ◌&&◌, ◌||◌, eqb, leb, List, [], ◌∷◌, length, get_or, set, replicate, sym, refl, ap, ◌∙◌, subst, ap₂, ⊎_elim, mod-lt, mod-eq_of_lt, div-add-mod', mul-div_cancel, arith, pow_pos, pow_mono, pow-add}
+use Rattle.std.proofs.Common.{◌≡◌, ℕ, zero, suc, ◌+◌, ◌-◌, ◌*◌, ◌/◌, ◌%◌, ◌^◌, ◌<◌, ◌≤◌, min, Bool, true, false, cond, not, ◌&&◌, ◌||◌, eqb, leb, List, [], ◌∷◌, length, get_or, set, replicate, sym, refl, ap, ◌∙◌, subst, ap₂, ⊎_elim, mod-lt, mod-eq_of_lt, div-add-mod', mul-div_cancel, arith, pow_pos, pow_mono, pow-add}
 use native.Mathlib.Nat.{div-eq_of_lt, div-eq_of_lt-le, div_self, zero-div}
-use lib.Bits.{bit_and, bit_xor, and_shr, and_mod, and_comm, and_lt, xor_shr, xor_mod, xor_add_and, and_mask}
+use lib.Bits.{bit_and, and_lt}
+use mir.Syntax.{w64}
+use Rattle.std.specs.Int.{bit_at}
+use Rattle.std.proofs.lemmas.Bool.Decides.{nat_tests}
+use Rattle.std.proofs.lemmas.Nat.Bits.{bit_at_and, bit_at_not, bit_at-lt, bit_at-pow_same, bit_at-pow_other}
 use lib.Pow.{pow-lt}
 use Rattle.std.proofs.lemmas.List.{get_or-set_same, get_or-set_other, length-set}
 use Rattle.std.proofs.lemmas.Nat.{div_below, one_shl, div-mul-add, mod-mul-add}
-use Rattle.std.proofs.lemmas.Bool.{cases_order, cases_eq, eq-eqb, ne_eqb, and_from, le-leb}
+use Rattle.std.proofs.Math.Bool.{and-true, or-false}
+use Rattle.std.proofs.lemmas.Bool.{cases_eq, eq-eqb, ne_eqb, and_from, le-leb}
 use Rattle.terms.specs.Numbers.{inside}
 use Rattle.terms.specs.Nets.{full_words}
 use Rattle.terms.specs.Sets.{holds, Own, SetOf, Without, Top}
@@ -23,70 +28,17 @@ bit a i = eqb (a / 2 ^ i % 2) 1
 pow_bit : (k m : ℕ) → bit (2 ^ k) m ≡ eqb m k
 pow_bit k m =
     ⊎_elim
-    (λ e. ap (λ x. eqb (2 ^ k / 2 ^ x % 2) 1) e ∙ ap (λ x. eqb (x % 2) 1) (div_self (pow_pos k)) ∙ sym (eq-eqb m k e))
-    (⊎_elim
-    (λ l.
-    let e : k - m - 1 + 1 + m ≡ k = omega arith in
-    let p : 2 ^ k ≡ 2 ^ (k - m - 1) * 2 * 2 ^ m = ap (λ x. 2 ^ x) (sym e) ∙ pow-add 2 (k - m - 1 + 1) m ∙ ap (λ x. x * 2 ^ m) (pow-add 2 (k - m - 1) 1) in
-    ap (λ x. eqb (x / 2 ^ m % 2) 1) p ∙ ap (λ x. eqb (x % 2) 1) (mul-div_cancel (2 ^ (k - m - 1) * 2) (pow_pos m)) ∙ ap (λ x. eqb x 1) (even (2 ^ (k - m - 1))) ∙ sym (ne_eqb m k (λ q. omega arith)))
-    (λ l. ap (λ x. eqb (x % 2) 1) (div-eq_of_lt (pow-lt {i = k} {j = m} l)) ∙ sym (ne_eqb m k (λ q. omega arith))))
-    (cases_order m k)
-  where
-    even : (a : ℕ) → a * 2 % 2 ≡ 0
-    even a = omega arith
+    (λ e. ap (λ i. bit (2 ^ k) i) e ∙ ap (λ x. eqb x 1) (bit_at-pow_same k) ∙ sym (eq-eqb m k e))
+    (λ d. ap (λ x. eqb x 1) (bit_at-pow_other k m d) ∙ sym (ne_eqb m k d))
+    (cases_eq m k)
 
-xor_test : (x y : ℕ) → x < 2 → y < 2 → eqb (bit_xor x y) 1 ≡ cond (eqb y 1) (not (eqb x 1)) (eqb x 1)
-xor_test zero zero p q = refl
-xor_test zero (suc zero) p q = refl
-xor_test (suc zero) zero p q = refl
-xor_test (suc zero) (suc zero) p q = refl
-xor_test zero (suc (suc y)) p q = absurd (omega arith)
-xor_test (suc zero) (suc (suc y)) p q = absurd (omega arith)
-xor_test (suc (suc x)) y p q = absurd (omega arith)
-
-and_test : (x y : ℕ) → x < 2 → y < 2 → eqb (bit_and x y) 1 ≡ (eqb x 1 && eqb y 1)
-and_test zero zero p q = refl
-and_test zero (suc zero) p q = refl
-and_test (suc zero) zero p q = refl
-and_test (suc zero) (suc zero) p q = refl
-and_test zero (suc (suc y)) p q = absurd (omega arith)
-and_test (suc zero) (suc (suc y)) p q = absurd (omega arith)
-and_test (suc (suc x)) y p q = absurd (omega arith)
-
-xor_at : (a b i : ℕ) → bit (bit_xor a b) i ≡ cond (bit b i) (not (bit a i)) (bit a i)
-xor_at a b i =
-    ap (λ x. eqb (x % 2) 1) (xor_shr a b i) ∙ ap (λ x. eqb x 1) (xor_mod (a / 2 ^ i) (b / 2 ^ i) 1)
-    ∙ xor_test (a / 2 ^ i % 2) (b / 2 ^ i % 2) (mod-lt (a / 2 ^ i) {m = 2} (omega arith)) (mod-lt (b / 2 ^ i) {m = 2} (omega arith))
-
-and_at : (a b i : ℕ) → bit (bit_and a b) i ≡ (bit a i && bit b i)
-and_at a b i =
-    ap (λ x. eqb (x % 2) 1) (and_shr a b i) ∙ ap (λ x. eqb x 1) (and_mod (a / 2 ^ i) (b / 2 ^ i) 1)
-    ∙ and_test (a / 2 ^ i % 2) (b / 2 ^ i % 2) (mod-lt (a / 2 ^ i) {m = 2} (omega arith)) (mod-lt (b / 2 ^ i) {m = 2} (omega arith))
-
--- every bit of the largest word is set
-ones_at : (i : ℕ) → i < 64 → bit (2 ^ 64 - 1) i ≡ true
-ones_at i l =
-    let e : bit_and (2 ^ i) (2 ^ 64 - 1) ≡ 2 ^ i = and_mask (2 ^ i) 64 ∙ mod-eq_of_lt (pow-lt {i = i} {j = 64} l) in
-    let t : bit (2 ^ i) i ≡ true = pow_bit i i ∙ eq-eqb i i refl in
-    sym (ap (λ b. b && bit (2 ^ 64 - 1) i) t) ∙ sym (and_at (2 ^ i) (2 ^ 64 - 1) i) ∙ ap (λ x. bit x i) e ∙ t
-
--- the complement of a word
-complement : (b : ℕ) → b < 2 ^ 64 → 2 ^ 64 - 1 - b ≡ bit_xor (2 ^ 64 - 1) b
-complement b l =
-    let s = xor_add_and (2 ^ 64 - 1) b in
-    let e : bit_and (2 ^ 64 - 1) b ≡ b = and_comm (2 ^ 64 - 1) b ∙ and_mask b 64 ∙ mod-eq_of_lt l in
-    omega arith
+minus_test : (x y : ℕ) → x < 2 → y < 2 → eqb (min x (1 - y)) 1 ≡ (eqb x 1 && not (eqb y 1))
+minus_test x y p q = grind (arith, nat_tests)
 
 -- the bits of a word that another lacks
 pub minus_at : (w b i : ℕ) → b < 2 ^ 64 → i < 64 → bit (bit_and w (2 ^ 64 - 1 - b)) i ≡ (bit w i && not (bit b i))
 minus_at w b i l m =
-    ap (λ x. bit (bit_and w x) i) (complement b l)
-    ∙ and_at w (bit_xor (2 ^ 64 - 1) b) i
-    ∙ ap (λ t. bit w i && t) (xor_at (2 ^ 64 - 1) b i ∙ ap (λ c. cond (bit b i) (not c) c) (ones_at i m) ∙ flip (bit b i))
-  where
-    flip : (b : Bool) → cond b (not true) true ≡ not b
-    flip true = refl
-    flip false = refl
+    ap (λ x. eqb x 1) (bit_at_and w (2 ^ 64 - 1 - b) i ∙ ap (min (bit_at w i)) (bit_at_not w64 b i l m)) ∙ minus_test (bit_at w i) (bit_at b i) (bit_at-lt w i) (bit_at-lt b i)
 
 -- a word with bit k cleared
 abbrev cleared : ℕ → ℕ → ℕ
@@ -143,10 +95,6 @@ zeros_at (suc (suc zero)) = refl
 zeros_at (suc (suc (suc zero))) = refl
 zeros_at (suc (suc (suc (suc i)))) = refl
 
-or_none : (b : Bool) → b ≡ (b || false)
-or_none true = refl
-or_none false = refl
-
 low : (g : ℕ) → g % 64 < 64
 low g = mod-lt g {m = 64} (omega arith)
 
@@ -159,17 +107,13 @@ single_net g l =
     subst (λ x. SetOf (g ∷ []) (net_set (set zeros (g / 64) x))) (sym (one_shl (g % 64) 64 (low g))) (record {
       own = set_own zeros (g / 64) (2 ^ (g % 64)) refl (λ j. subst (λ x. x < 2 ^ 64) (sym (zeros_at j)) (pow_pos 64)) (pow-lt {i = g % 64} {j = 64} (low g));
       members = λ h. ⊎_elim
-          (λ e. here zeros g h (2 ^ (g % 64)) l refl e ∙ pow_bit (g % 64) (h % 64) ∙ same_place g h e ∙ or_none (eqb h g))
+          (λ e. here zeros g h (2 ^ (g % 64)) l refl e ∙ pow_bit (g % 64) (h % 64) ∙ same_place g h e ∙ sym (or-false (eqb h g)))
           (λ d. elsewhere zeros g h (2 ^ (g % 64)) d ∙ ap (λ w. bit w (h % 64)) (zeros_at (h / 64)) ∙ ap (λ x. eqb (x % 2) 1) (zero-div (2 ^ (h % 64)))
           ∙ sym (ap (λ b. b || false) (ne_eqb h g (λ q. d (ap (λ n. n / 64) q)))))
           (cases_eq (h / 64) (g / 64));
     })
 
 -- ---- a net taken out
-and_all : (b : Bool) → b ≡ (b && not false)
-and_all true = refl
-and_all false = refl
-
 -- what `without` writes
 pub net_out : (ws : List ℕ) (g : ℕ) → g < 256 → length ws ≡ 4 → ((i : ℕ) → get_or ws i 0 < 2 ^ 64)
     → Without (net_set ws) g (net_set (set ws (g / 64) (bit_and (get_or ws (g / 64) 0) (2 ^ 64 - 1 - (1 * 2 ^ (g % 64)) % 2 ^ 64))))
@@ -182,7 +126,7 @@ net_out ws g l n f =
       members = λ h. ⊎_elim
           (λ e. here ws g h (cleared w k) l n e ∙ cleared_at w k (h % 64) (low g) (low h)
           ∙ ap₂ (λ a b. bit a (h % 64) && not b) (ap (λ i. get_or ws i 0) (sym e)) (same_place g h e))
-          (λ d. elsewhere ws g h (cleared w k) d ∙ and_all (holds (net_set ws) h)
+          (λ d. elsewhere ws g h (cleared w k) d ∙ sym (and-true (holds (net_set ws) h))
           ∙ ap (λ b. holds (net_set ws) h && not b) (sym (ne_eqb h g (λ q. d (ap (λ i. i / 64) q)))))
           (cases_eq (h / 64) (g / 64));
     })
@@ -218,7 +162,3 @@ top_net ws i j l low_end high_end zero_above = record {
       where
         no_bit : (h : ℕ) → get_or ws (h / 64) 0 ≡ 0 → holds (net_set ws) h ≡ false
         no_bit h e = ap (λ w. eqb (w / 2 ^ (h % 64) % 2) 1) e ∙ ap (λ x. eqb (x % 2) 1) (zero-div (2 ^ (h % 64)))
-
--- no net, where every word is 0
-pub no_net : (ws : List ℕ) → ((k : ℕ) → get_or ws k 0 ≡ 0) → (h : ℕ) → holds (net_set ws) h ≡ false
-no_net ws f h = ap (λ w. eqb (w / 2 ^ (h % 64) % 2) 1) (f (h / 64)) ∙ ap (λ x. eqb (x % 2) 1) (zero-div (2 ^ (h % 64)))

@@ -1,7 +1,12 @@
 -- Net sets by their members. Assumes nothing.
-use Rattle.std.proofs.Common.{◌≡◌, ℕ, zero, suc, ◌+◌, ◌-◌, ◌/◌, ◌%◌, ◌^◌, ◌<◌, ◌≤◌, true, false, ◌||◌, eqb, leb, List, [], ◌∷◌, reverse, length, get_or, replicate, sym, refl, ap, ◌∙◌, ap₂, ⊎_elim, mod-lt, div-add-mod', div-one, arith, pow_mono, shr-shr}
-use native.Mathlib.Nat.{div-eq_of_lt, zero-div}
-use lib.Bits.{bit_or, or_shr, or_mod}
+use Rattle.std.proofs.Common.{◌≡◌, ℕ, zero, suc, ◌+◌, ◌-◌, ◌/◌, ◌%◌, ◌^◌, ◌<◌, ◌≤◌, max, true, false, ◌||◌, ◌⊎◌, inl, inr, eqb, leb, List, [], ◌∷◌, reverse, length, get_or, replicate, sym, refl, ap, ◌∙◌, ap₂, ⊎_elim, mod-lt, div-add-mod', div-one, arith, pow_mono, shr-shr}
+use native.Mathlib.Nat.{div-eq_of_lt, div-eq_of_lt-le, zero-div}
+use lib.Bits.{bit_or, bit_xor, xor_lt}
+use lib.Count.{leading_top}
+use Rattle.std.proofs.Math.Nat.{eq-zero-or-pos}
+use Rattle.std.specs.Int.{bit_at}
+use Rattle.std.proofs.lemmas.Nat.Bits.{bit_at_lowest, bit_at-suc, bit_at-zero, bit_at_or, bit_at_xor, bit_at-lt, bit_at_above, same_from_bits}
+use Rattle.std.proofs.lemmas.Bool.Decides.{nat_tests}
 use Rattle.std.proofs.lemmas.Bool.{cases_Bool, cases_order, cases_lt, true≢false, false≢true, eqb-true, eqb-false, and_parts, leb-true}
 use Rattle.terms.specs.Numbers.{lex, inside, paired}
 use Rattle.terms.specs.Nets.{net_model, full_words}
@@ -63,21 +68,8 @@ less_number a b u v h =
     ]
 
 -- ---- bits of a number
-next_bit : (a i : ℕ) → a / 2 ^ suc i ≡ a / 2 / 2 ^ i
-next_bit a i = sym (shr-shr a 1 i ∙ ap (λ n. a / 2 ^ n) (let e : 1 + i ≡ suc i = omega arith in e))
-
-halves : (a b : ℕ) → a / 2 ≡ b / 2 → a % 2 ≡ b % 2 → a ≡ b
-halves a b e f = omega (arith, div-add-mod' a 2, div-add-mod' b 2)
-
-first_bit : (a : ℕ) → a / 2 ^ 0 % 2 ≡ a % 2
-first_bit a = ap (λ x. x % 2) (div-one a)
-
 pub same_bits : (n a b : ℕ) → a < 2 ^ n → b < 2 ^ n → ((i : ℕ) → a / 2 ^ i % 2 ≡ b / 2 ^ i % 2) → a ≡ b
-same_bits zero a b p q e = omega arith
-same_bits (suc n) a b p q e =
-    halves a b
-    (same_bits n (a / 2) (b / 2) (omega arith) (omega arith) (λ i. ap (λ x. x % 2) (sym (next_bit a i)) ∙ e (suc i) ∙ ap (λ x. x % 2) (next_bit b i)))
-    (sym (first_bit a) ∙ e 0 ∙ first_bit b)
+same_bits n a b p q e = same_from_bits a b e
 
 -- g is the greatest bit in which a and b differ, and b has it
 pub record TopBit (a b g : ℕ) : Type 0 where
@@ -85,51 +77,42 @@ pub record TopBit (a b g : ℕ) : Type 0 where
   pub has : b / 2 ^ g % 2 ≡ 1
   pub above : (h : ℕ) → g < h → a / 2 ^ h % 2 ≡ b / 2 ^ h % 2
 
-pub greatest_bit : (n a b : ℕ) → a < 2 ^ n → b < 2 ^ n → a < b → (g : ℕ) × TopBit a b g
-greatest_bit zero a b p q l = absurd (omega arith)
-greatest_bit (suc n) a b p q l =
-    ⊎_elim
-    (λ e. (
-      0,
-      record {
-        lacks = first_bit a ∙ omega (arith, div-add-mod' a 2, div-add-mod' b 2, mod-lt a {m = 2} (omega arith), mod-lt b {m = 2} (omega arith));
-        has = first_bit b ∙ omega (arith, div-add-mod' a 2, div-add-mod' b 2, mod-lt a {m = 2} (omega arith), mod-lt b {m = 2} (omega arith));
-        above = level_above e;
-      },
-    ))
-    (⊎_elim
-    (λ m. let r = greatest_bit n (a / 2) (b / 2) (omega arith) (omega arith) m in (
-      suc r.0,
-      record {
-        lacks = ap (λ x. x % 2) (next_bit a r.0) ∙ r.1.lacks;
-        has = ap (λ x. x % 2) (next_bit b r.0) ∙ r.1.has;
-        above = lower_above r.0 r.1.above;
-      },
-    ))
-    (λ m. absurd (omega arith)))
-    (cases_order (a / 2) (b / 2))
-  where
-    level_above : a / 2 ≡ b / 2 → (h : ℕ) → 0 < h → a / 2 ^ h % 2 ≡ b / 2 ^ h % 2
-    level_above e zero m = absurd (omega arith)
-    level_above e (suc h) m = ap (λ x. x % 2) (next_bit a h ∙ ap (λ x. x / 2 ^ h) e ∙ sym (next_bit b h))
-
-    lower_above : (g : ℕ) → ((h : ℕ) → g < h → a / 2 / 2 ^ h % 2 ≡ b / 2 / 2 ^ h % 2) → (h : ℕ) → suc g < h → a / 2 ^ h % 2 ≡ b / 2 ^ h % 2
-    lower_above g f zero m = absurd (omega arith)
-    lower_above g f (suc h) m = ap (λ x. x % 2) (next_bit a h) ∙ f h (omega arith) ∙ ap (λ x. x % 2) (sym (next_bit b h))
-
-pub less_bit : (g n a b : ℕ) → a < 2 ^ n → b < 2 ^ n → TopBit a b g → a < b
-less_bit zero n a b p q t =
-    let e : a / 2 ≡ b / 2 = same_bits n (a / 2) (b / 2) (omega arith) (omega arith) (λ i. ap (λ x. x % 2) (sym (next_bit a i)) ∙ t.above (suc i) (omega arith) ∙ ap (λ x. x % 2) (next_bit b i)) in
-    let x : a % 2 ≡ 0 = sym (first_bit a) ∙ t.lacks in
-    let y : b % 2 ≡ 1 = sym (first_bit b) ∙ t.has in
-    omega (arith, div-add-mod' a 2, div-add-mod' b 2)
-less_bit (suc g) n a b p q t =
-    let r : a / 2 < b / 2 = less_bit g n (a / 2) (b / 2) (omega arith) (omega arith) (record {
-      lacks = ap (λ x. x % 2) (sym (next_bit a g)) ∙ t.lacks;
-      has = ap (λ x. x % 2) (sym (next_bit b g)) ∙ t.has;
-      above = λ h l. ap (λ x. x % 2) (sym (next_bit a h)) ∙ t.above (suc h) (omega arith) ∙ ap (λ x. x % 2) (next_bit b h);
+pub less_bit : (g a b : ℕ) → TopBit a b g → a < b
+less_bit zero a b t =
+    let e : a / 2 ≡ b / 2 = same_from_bits (a / 2) (b / 2) (λ i. sym (bit_at-suc a i) ∙ t.above (suc i) (omega arith) ∙ bit_at-suc b i) in
+    let x : a % 2 ≡ 0 = sym (bit_at_lowest a) ∙ t.lacks in
+    let y : b % 2 ≡ 1 = sym (bit_at_lowest b) ∙ t.has in
+    omega arith
+less_bit (suc g) a b t =
+    let r : a / 2 < b / 2 = less_bit g (a / 2) (b / 2) (record {
+      lacks = sym (bit_at-suc a g) ∙ t.lacks;
+      has = sym (bit_at-suc b g) ∙ t.has;
+      above = λ h l. sym (bit_at-suc a h) ∙ t.above (suc h) (omega arith) ∙ bit_at-suc b h;
     }) in
     omega arith
+
+-- bits whose sum by XOR is 0, and 1
+level_bits : (x y : ℕ) → x < 2 → y < 2 → (x + y) % 2 ≡ 0 → x ≡ y
+level_bits x y p q e = omega arith
+
+unlike_bits : (x y : ℕ) → x < 2 → y < 2 → (x + y) % 2 ≡ 1 → ((x ≡ 0) × (y ≡ 1)) ⊎ ((y ≡ 0) × (x ≡ 1))
+unlike_bits zero y p q e = inl (refl, omega arith)
+unlike_bits (suc x) y p q e = inr (omega arith, omega arith)
+
+-- it is the highest bit of the sum by XOR
+pub greatest_bit : (n a b : ℕ) → a < 2 ^ n → b < 2 ^ n → a < b → (g : ℕ) × TopBit a b g
+greatest_bit n a b p q l =
+    let x = bit_xor a b in
+    let same : (i : ℕ) → bit_at x i ≡ 0 → bit_at a i ≡ bit_at b i = λ i e. level_bits (bit_at a i) (bit_at b i) (bit_at-lt a i) (bit_at-lt b i) (sym (bit_at_xor a b i) ∙ e) in
+    let some : 0 < x = ⊎_elim (λ e. absurd (let z : a ≡ b = same_from_bits a b (λ i. same i (ap (λ m. bit_at m i) e ∙ bit_at-zero i)) in omega arith)) (λ h. h) (eq-zero-or-pos x) in
+    let t = leading_top n x some (xor_lt n a b p q) in
+    let g = t.0 in
+    let one : bit_at x g ≡ 1 = ap (λ m. m % 2) (div-eq_of_lt-le {k = 1} (2 ^ g) {m = x} (omega (arith, t.2)) (omega (arith, t.3))) in
+    let above : (h : ℕ) → g < h → bit_at a h ≡ bit_at b h = λ h m. same h (bit_at_above x (suc g) h t.3 m) in
+    ⊎_elim
+    (λ e. (g, record { lacks = e.0; has = e.1; above = above }))
+    (λ e. absurd (let m = less_bit g b a (record { lacks = e.0; has = e.1; above = λ h m. sym (above h m) }) in omega arith))
+    (unlike_bits (bit_at a g) (bit_at b g) (bit_at-lt a g) (bit_at-lt b g) (sym (bit_at_xor a b g) ∙ one))
 
 -- ---- bits of words
 pub own_words : (n : ℕ) (ws : List ℕ) → inside (replicate n (2 ^ 64 - 1)) ws ≡ true → Below 64 ws
@@ -170,19 +153,11 @@ paired_at (l ∷ ls) (x ∷ xs) [] i e f = absurd (omega arith)
 paired_at (l ∷ ls) (x ∷ xs) (y ∷ ys) zero e f = refl
 paired_at (l ∷ ls) (x ∷ xs) (y ∷ ys) (suc i) e f = paired_at ls xs ys i (omega arith) (omega arith)
 
-or_test : (x y : ℕ) → x < 2 → y < 2 → eqb (bit_or x y) 1 ≡ (eqb x 1 || eqb y 1)
-or_test zero zero p q = refl
-or_test zero (suc zero) p q = refl
-or_test (suc zero) zero p q = refl
-or_test (suc zero) (suc zero) p q = refl
-or_test zero (suc (suc y)) p q = absurd (omega arith)
-or_test (suc zero) (suc (suc y)) p q = absurd (omega arith)
-or_test (suc (suc x)) y p q = absurd (omega arith)
+or_test : (x y : ℕ) → x < 2 → y < 2 → eqb (max x y) 1 ≡ (eqb x 1 || eqb y 1)
+or_test x y p q = grind (arith, nat_tests)
 
 pub or_at : (a b i : ℕ) → eqb (bit_or a b / 2 ^ i % 2) 1 ≡ (eqb (a / 2 ^ i % 2) 1 || eqb (b / 2 ^ i % 2) 1)
-or_at a b i =
-    ap (λ x. eqb (x % 2) 1) (or_shr a b i) ∙ ap (λ x. eqb x 1) (or_mod (a / 2 ^ i) (b / 2 ^ i) 1)
-    ∙ or_test (a / 2 ^ i % 2) (b / 2 ^ i % 2) (mod-lt (a / 2 ^ i) {m = 2} (omega arith)) (mod-lt (b / 2 ^ i) {m = 2} (omega arith))
+or_at a b i = ap (λ x. eqb x 1) (bit_at_or a b i) ∙ or_test (bit_at a i) (bit_at b i) (bit_at-lt a i) (bit_at-lt b i)
 
 -- ---- the laws of net sets
 same_number : (s t : NetSet) → Own s → Own t → number s ≡ number t → s ≡ t
@@ -228,7 +203,7 @@ members_order s t os ot l =
 
 pub greatest_less : (s t : NetSet) (g : ℕ) → Own s → Own t → Greatest s t g → net_model.less s t ≡ true
 greatest_less s t g os ot r =
-    less_number s t os ot (less_bit g 256 (number s) (number t) (number_below s os) (number_below t ot) (record {
+    less_number s t os ot (less_bit g (number s) (number t) (record {
       lacks = zero_bit (number s / 2 ^ g) (sym (holds_number s os g) ∙ r.lacks);
       has = one_bit (number t / 2 ^ g) (sym (holds_number t ot g) ∙ r.has);
       above = λ h m. bit_from_test (number s / 2 ^ h) (number t / 2 ^ h) (sym (holds_number s os h) ∙ r.above h m ∙ holds_number t ot h);

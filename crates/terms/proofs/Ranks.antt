@@ -2,6 +2,7 @@
 use Rattle.std.proofs.Common.{◌≡◌, ℕ, zero, suc, ◌+◌, ◌-◌, ◌*◌, ◌/◌, ◌%◌, ◌^◌, ◌<◌, List, [], ◌∷◌, length, get_or, sym, refl, ap, ◌∙◌, ap₂, ⊎_elim, mod-eq_of_lt, mul_assoc, mul_comm, add_comm, zero-add, mul-suc, arith, pow_pos, pow-add, shr-shr}
 use native.Mathlib.Nat.{div-eq_of_lt, zero-div, add-mul-div_left, add-mul-div_right, add-mul-mod_self_right, add-div_left, add-mod_left}
 use lib.Count.{ones, ones_cat}
+use Rattle.std.proofs.lemmas.Nat.Bits.{bit_at-zero, bit_at_cat_low, bit_at_cat_high}
 use Rattle.std.proofs.lemmas.Nat.{mul-add-lt}
 use Rattle.std.proofs.lemmas.Bool.{cases_lt}
 use Rattle.terms.specs.Counts.{rank, weight}
@@ -21,25 +22,14 @@ at_below k [] f = tt
 at_below k (w ∷ ws) f = (f 0, at_below k ws (λ i. f (suc i)))
 
 -- ---- its bits
-shuffle : (p q d : ℕ) → p * 2 * q * d ≡ p * d * 2 * q
-shuffle p q d =
-    mul_assoc (p * 2) q d ∙ ap (λ x. p * 2 * x) (mul_comm q d) ∙ sym (mul_assoc (p * 2) d q)
-    ∙ ap (λ x. x * q) (mul_assoc p 2 d ∙ ap (λ x. p * x) (mul_comm 2 d) ∙ sym (mul_assoc p d 2))
+turned : (k w d : ℕ) → w + 2 ^ k * d ≡ d * 2 ^ k + w
+turned k w d = add_comm w (2 ^ k * d) ∙ ap (λ x. x + w) (mul_comm (2 ^ k) d)
 
 pub low_bit : (k w d g : ℕ) → g < k → (w + 2 ^ k * d) / 2 ^ g % 2 ≡ w / 2 ^ g % 2
-low_bit k w d g l =
-    let e : k - 1 - g + 1 + g ≡ k = omega arith in
-    let parts : 2 ^ k * d ≡ 2 ^ (k - 1 - g) * d * 2 * 2 ^ g =
-    ap (λ x. x * d) (ap (λ n. 2 ^ n) (sym e) ∙ pow-add 2 (k - 1 - g + 1) g ∙ ap (λ x. x * 2 ^ g) (pow-add 2 (k - 1 - g) 1)) ∙ shuffle (2 ^ (k - 1 - g)) (2 ^ g) d in
-    ap (λ x. (w + x) / 2 ^ g % 2) parts ∙ ap (λ x. x % 2) (add-mul-div_right w (2 ^ (k - 1 - g) * d * 2) (pow_pos g)) ∙ add-mul-mod_self_right (w / 2 ^ g) (2 ^ (k - 1 - g) * d) 2
-
-high_bit : (k w d h : ℕ) → w < 2 ^ k → (w + 2 ^ k * d) / 2 ^ (k + h) ≡ d / 2 ^ h
-high_bit k w d h l =
-    sym (shr-shr (w + 2 ^ k * d) k h)
-    ∙ ap (λ x. x / 2 ^ h) (add-mul-div_left w d (pow_pos k) ∙ ap (λ x. x + d) (div-eq_of_lt l) ∙ zero-add d)
+low_bit k w d g l = ap (λ x. x / 2 ^ g % 2) (turned k w d) ∙ bit_at_cat_low d k w g l
 
 pub rank_bit : (k : ℕ) → 0 < k → (ws : List ℕ) → Below k ws → (g : ℕ) → rank k ws / 2 ^ g % 2 ≡ get_or ws (g / k) 0 / 2 ^ (g % k) % 2
-rank_bit k p [] u g = ap (λ x. x % 2) (zero-div (2 ^ g) ∙ sym (zero-div (2 ^ (g % k))))
+rank_bit k p [] u g = bit_at-zero g ∙ sym (bit_at-zero (g % k))
 rank_bit k p (w ∷ ws) u g =
     ⊎_elim
     (λ l. low_bit k w (rank k ws) g l ∙ ap₂ (λ i j. get_or (w ∷ ws) i 0 / 2 ^ j % 2) (sym (div-eq_of_lt l)) (sym (mod-eq_of_lt l)))
@@ -47,7 +37,7 @@ rank_bit k p (w ∷ ws) u g =
     let e : g ≡ k + h = omega arith in
     let i : g / k ≡ suc (h / k) = ap (λ x. x / k) e ∙ add-div_left h {k = k} p ∙ (let s : h / k + 1 ≡ suc (h / k) = omega arith in s) in
     let j : g % k ≡ h % k = ap (λ x. x % k) e ∙ add-mod_left k h in
-    ap (λ x. (w + 2 ^ k * rank k ws) / 2 ^ x % 2) e ∙ ap (λ x. x % 2) (high_bit k w (rank k ws) h u.0) ∙ rank_bit k p ws u.1 h
+    ap (λ x. x / 2 ^ g % 2) (turned k w (rank k ws)) ∙ bit_at_cat_high (rank k ws) k w g u.0 l ∙ rank_bit k p ws u.1 h
     ∙ ap₂ (λ a b. get_or (w ∷ ws) a 0 / 2 ^ b % 2) (sym i) (sym j))
     (cases_lt g k)
 

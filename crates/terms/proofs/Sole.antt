@@ -1,5 +1,6 @@
 -- Terms of net sets are fixed by their values: terms whose value is always 0 are none, since at the nets of the least set the value is that set's code. Assumes nothing.
 use Rattle.std.proofs.Common.{◌≡◌, ℕ, ◌<◌, Bool, true, false, cond, not, ◌&&◌, ◌||◌, eqb, List, [], ◌∷◌, sym, refl, ap, ◌∙◌, arith}
+use Rattle.std.proofs.Math.Bool.{and-false}
 use lib.Bits.{bit_xor, xor_zero_l, xor_zero_r, xor_self}
 use Rattle.terms.specs.Forms.{Form}
 use Rattle.terms.specs.Nets.{net_model}
@@ -39,17 +40,13 @@ pub set_on_self : (s : NetSet) → set_on (holds s) s ≡ true
 set_on_self s = every_all 256 (λ g. not (holds s g) || holds s g) (λ g. or_self (holds s g))
 
 -- a greater set has a net more
-and_none : (b : Bool) → (b && false) ≡ false
-and_none true = refl
-and_none false = refl
-
 greater_off : (s t : NetSet) → Own s → Own t → net_model.less s t ≡ true → set_on (holds s) t ≡ false
 greater_off s t os ot l =
     let r = (laws_of_sets.order s t os ot).0 l in
     let g = r.0 in
     let few = laws_of_sets.few t ot g r.1.has in
     let rest = every 256 (λ h. not (holds t h && not (eqb h g)) || holds s h) in
-    on_split 256 (holds s) (holds t) g few r.1.has ∙ ap (λ b. rest && b) r.1.lacks ∙ and_none rest
+    on_split 256 (holds s) (holds t) g few r.1.has ∙ ap (λ b. rest && b) r.1.lacks ∙ and-false rest
 
 -- at the nets of its least set a form is the code of that set
 pub value_least : (t : Term NetSet) (ts : List (Term NetSet)) → Monos Own (t ∷ ts) → Falling net_model (t ∷ ts) → value_under (holds (least t ts).mono) (t ∷ ts) ≡ (least t ts).code

@@ -7,6 +7,7 @@ use Rattle.std.specs.List.{zip, AllWithin, HoldsAt}
 use Rattle.std.proofs.lemmas.List.{get_or_past}
 use Rattle.std.proofs.lemmas.Slice.Zip.{get_or-zip, length-zip}
 use Rattle.std.proofs.lemmas.Nat.{div-mul-add, mod-mul-add}
+use Rattle.std.proofs.lemmas.Nat.Bits.{bit_at_above}
 use Rattle.std.proofs.lemmas.Bool.{cases_lt, cases_Bool, true≢false, false≢true}
 use Rattle.terms.specs.Sets.{holds, Own}
 use Rattle.terms.specs.Values.{set_on}
@@ -17,7 +18,7 @@ use Rattle.terms.proofs.Values.{every_all, every_one}
 
 -- a bit past the end of a number
 pub past_bit : (n a i : ℕ) → a < 2 ^ n → n ≤ i → a / 2 ^ i % 2 ≡ 0
-past_bit n a i l h = let p : 2 ^ n ≤ 2 ^ i = pow_mono {i = n} {j = i} h in ap (λ x. x % 2) (div-eq_of_lt (omega arith))
+past_bit n a i l h = bit_at_above a n i l h
 
 -- the bits of a that b lacks
 abbrev pub lacked : ℕ → ℕ → ℕ
@@ -93,13 +94,6 @@ low_past a zero = refl
 low_past a (suc zero) = refl
 low_past a (suc (suc zero)) = refl
 low_past a (suc (suc (suc i))) = refl
-
-pub low_own : (a : ℕ) → a < 2 ^ 64 → Own (net_set (low_words a))
-low_own a l = own_of (low_words a) refl below
-  where
-    below : (i : ℕ) → get_or (low_words a) i 0 < 2 ^ 64
-    below zero = l
-    below (suc i) = subst (λ x. x < 2 ^ 64) (sym (low_past a i)) (pow_pos 64)
 
 pub first_word : (xs : List ℕ) (g : ℕ) → g < 64 → bit (get_or xs 0 0) g ≡ holds (net_set xs) g
 first_word xs g l = sym (ap₂ (λ i j. bit (get_or xs i 0) j) (div-eq_of_lt l) (mod-eq_of_lt l))

@@ -1,6 +1,7 @@
 -- Whether all nets of a set have bit one, and the value of terms where each net has a bit. Assumes nothing.
 use Rattle.std.proofs.Common.{◌≡◌, ℕ, zero, suc, ◌<◌, ◌≤◌, Bool, true, false, cond, not, ◌&&◌, ◌||◌, eqb, List, [], ◌∷◌, sym, refl, ap, ◌∙◌, ap₂, ⊎_elim, not-suc-le-zero, arith}
 use lib.Bits.{bit_xor, xor_comm, xor_assoc}
+use Rattle.std.proofs.Math.Bool.{and-true}
 use Rattle.std.proofs.lemmas.Bool.{and_parts, cases_eq, eqb-true, eq-eqb, ne_eqb}
 use Rattle.terms.specs.Nets.{net_model}
 use Rattle.terms.specs.Sets.{holds, Within}
@@ -9,7 +10,7 @@ use Rattle.terms.specs.Values.{every, set_on, value_under}
 use Rattle.terms.specs.declared.Term.{Term}
 use Rattle.terms.specs.declared.nets.NetSet.{NetSet}
 use Rattle.terms.specs.BothKinds.{net_laws}
-use Rattle.terms.proofs.Laws.{value_added}
+use Rattle.terms.proofs.Laws.{any_codes, cond_xor, value_added}
 
 pub every_true : (n : ℕ) → every n (λ _. true) ≡ true
 unfolding every
@@ -46,16 +47,12 @@ unfolding every
 every_low zero g v l = refl
 every_low (suc n) g v l = rw (ne_eqb n g (λ e. omega arith)) (every_low n g v (omega arith))
 
-and_true : (b : Bool) → (b && true) ≡ b
-and_true true = refl
-and_true false = refl
-
 pub every_at : (n : ℕ) (g : ℕ) (v : ℕ → Bool) → g < n → every n (λ h. not (eqb h g) || v h) ≡ v g
 unfolding every
 every_at zero g v l = absurd (not-suc-le-zero l)
 every_at (suc n) g v l =
     ⊎_elim
-    (λ e. ap₂ (λ x y. x && y) (ap (λ x. not x || v n) (eq-eqb n g e)) (every_low n g v (omega arith)) ∙ and_true (v n) ∙ ap v e)
+    (λ e. ap₂ (λ x y. x && y) (ap (λ x. not x || v n) (eq-eqb n g e)) (every_low n g v (omega arith)) ∙ and-true (v n) ∙ ap v e)
     (λ d. ap (λ x. (not x || v n) && every n (λ h. not (eqb h g) || v h)) (ne_eqb n g d) ∙ every_at n g v (omega arith))
     (cases_eq n g)
 
@@ -88,10 +85,6 @@ on_split n v a g l e =
     ∙ ap (λ x. on v (λ h. a h && not (eqb h g)) n && x) (every_at n g v l)
 
 -- ---- the value of terms
-pub cond_xor : (s : Bool) (a b : ℕ) → cond s (bit_xor a b) 0 ≡ bit_xor (cond s a 0) (cond s b 0)
-cond_xor true a b = refl
-cond_xor false a b = refl
-
 agree_at : (a x y : Bool) → (a ≡ true → x ≡ y) → (not a || x) ≡ (not a || y)
 agree_at true x y f = f refl
 agree_at false x y f = refl
@@ -103,10 +96,6 @@ set_on_agree v w n a s h = every_same 256 (λ g. not (holds s g) || v g) (λ g. 
 pub value_at_agree : (v w : ℕ → Bool) (n : ℕ) → ((i : ℕ) → i < n → v i ≡ w i) → (ts : List (Term NetSet)) → Monos (Within n) ts → value_under v ts ≡ value_under w ts
 value_at_agree v w n a [] h = refl
 value_at_agree v w n a (t ∷ ts) h = ap₂ (λ l x. bit_xor (cond l t.code 0) x) (set_on_agree v w n a t.mono h.0) (value_at_agree v w n a ts h.1)
-
-any_codes : {M : Type 0} (ts : List (Term M)) → Codes (λ _. Unit {0}) ts
-any_codes [] = tt
-any_codes (t ∷ ts) = (tt, any_codes ts)
 
 pub xor_turn : (a b c : ℕ) → bit_xor a (bit_xor b c) ≡ bit_xor (bit_xor b a) c
 xor_turn a b c = sym (xor_assoc a b c) ∙ ap (λ x. bit_xor x c) (xor_comm a b)

@@ -1,9 +1,10 @@
 -- The laws of lists of numbers as monomials. Assumes nothing.
-use Rattle.std.specs.Prelude.{◌≡◌, ℕ, zero, suc, ◌+◌, ◌-◌, ◌/◌, ◌%◌, ◌^◌, ◌<◌, ◌≤◌, min, true, false, ◌⊎◌, List, [], ◌∷◌, reverse, length, take, ◌≢◌, bit_or, nat_le, nat_lt, slice_index, refl}
+use Rattle.std.specs.Prelude.{◌≡◌, ℕ, zero, suc, ◌+◌, ◌-◌, ◌/◌, ◌%◌, ◌^◌, ◌<◌, ◌≤◌, min, max, true, false, ◌⊎◌, List, [], ◌∷◌, reverse, length, take, ◌≢◌, bit_or, nat_le, nat_lt, slice_index, refl}
 use Rattle.std.proofs.Common.{sym, ap, ap₂, ◌∙◌, inl, inr, ⊎_elim, zero-le, le_of_suc-le-suc, not-suc-le-zero, mod-lt, arith}
 use Rattle.std.proofs.Math.Nat.{min-eq_left, min-le_right}
-use Rattle.std.proofs.Math.Arith.{bin_ind}
-use Rattle.std.proofs.lemmas.Nat.{or_shr, or_mod, or_comm, or_lt}
+use Rattle.std.proofs.lemmas.Nat.{or_comm, or_lt}
+use Rattle.std.proofs.lemmas.Nat.Bits.{bit_at_or, same_from_bits}
+use Rattle.std.specs.Int.{bit_at}
 use Rattle.std.specs.Int.Bits.{or_zero_l}
 use Rattle.std.proofs.lemmas.List.{reverse-reverse}
 use Rattle.std.proofs.lemmas.Bool.{cases_order, cases_lt, lt-ltb, le-ltb, le-leb, leb-true, and_parts, and_from, cond-true, cond-false, true≢false}
@@ -52,23 +53,6 @@ lex_trans (a ∷ aa) (b ∷ bs) (c ∷ cs) e f =
     (λ l. ⊎_elim (λ r. lex_lower a c aa cs (omega arith)) (⊎_elim (λ r. lex_lower a c aa cs (omega arith)) (λ r. never (sym f ∙ lex_higher b c bs cs r))) (cases_order b c))
     (λ l. never (sym e ∙ lex_higher a b aa bs l)))
     (cases_order a b)
-
-first : List ℕ → ℕ
-first [] = 0
-first (x ∷ xs) = x
-
-rest : List ℕ → List ℕ
-rest [] = []
-rest (x ∷ xs) = xs
-
--- the place that decides
-pub lex_at : (n : ℕ) (aa bs : List ℕ) → n < length aa → n < length bs → take n aa ≡ take n bs → (slice_index aa n ≢ slice_index bs n) → lex aa bs ≡ nat_lt (slice_index aa n) (slice_index bs n)
-unfolding first rest
-lex_at n [] bs h i e d = absurd (not-suc-le-zero h)
-lex_at n (a ∷ aa) [] h i e d = absurd (not-suc-le-zero i)
-lex_at zero (a ∷ aa) (b ∷ bs) h i e d =
-    ⊎_elim (λ q. absurd (d q)) (⊎_elim (λ l. lex_lower a b aa bs l ∙ sym (lt-ltb a b l)) (λ l. lex_higher a b aa bs l ∙ sym (le-ltb a b (let g : b ≤ a = omega arith in g)))) (cases_order a b)
-lex_at (suc n) (a ∷ aa) (b ∷ bs) h i e d = lex_level a b aa bs (ap first e) ∙ lex_at n aa bs (le_of_suc-le-suc h) (le_of_suc-le-suc i) (ap rest e) d
 
 pub reversed_same : (aa bs : List ℕ) → reverse aa ≡ reverse bs → aa ≡ bs
 reversed_same aa bs e = sym (reverse-reverse aa) ∙ ap reverse e ∙ reverse-reverse bs
@@ -137,33 +121,14 @@ module _ (f : ℕ → ℕ → ℕ → ℕ) where
       (paired_assoc ls aa bs cs j.1 (tail_in l a ls aa u) (tail_in l b ls bs v) (tail_in l c ls cs w))
 
 -- ---- unions of words
-not_digit : {A : Type 0} {x : ℕ} → suc (suc x) < 2 → A
-not_digit h = absurd (not-suc-le-zero (le_of_suc-le-suc (le_of_suc-le-suc h)))
-
-digit_assoc : (x y z : ℕ) → x < 2 → y < 2 → z < 2 → bit_or (bit_or x y) z ≡ bit_or x (bit_or y z)
-digit_assoc zero y z hx hy hz = refl
-digit_assoc (suc zero) zero z hx hy hz = refl
-digit_assoc (suc zero) (suc zero) zero hx hy hz = refl
-digit_assoc (suc zero) (suc zero) (suc zero) hx hy hz = refl
-digit_assoc (suc zero) (suc zero) (suc (suc z)) hx hy hz = not_digit hz
-digit_assoc (suc zero) (suc (suc y)) z hx hy hz = not_digit hy
-digit_assoc (suc (suc x)) y z hx hy hz = not_digit hx
-
-by_digits : (a b : ℕ) → a / 2 ≡ b / 2 → a % 2 ≡ b % 2 → a ≡ b
-by_digits a b p q = omega arith
-
-two_pos : 0 < 2
-two_pos = omega arith
+max_assoc : (x y z : ℕ) → max (max x y) z ≡ max x (max y z)
+max_assoc x y z = omega arith
 
 pub or_assoc : (a b c : ℕ) → bit_or (bit_or a b) c ≡ bit_or a (bit_or b c)
-or_assoc =
-    bin_ind (λ (n : ℕ). (b c : ℕ) → bit_or (bit_or n b) c ≡ bit_or n (bit_or b c)) (λ b c. refl)
-    (λ n ih b c. by_digits _ _
-    (or_shr (bit_or n b) c 1 ∙ ap (λ (x : ℕ). bit_or x (c / 2)) (or_shr n b 1) ∙ ih (b / 2) (c / 2)
-    ∙ sym (or_shr n (bit_or b c) 1 ∙ ap (bit_or (n / 2)) (or_shr b c 1)))
-    (or_mod (bit_or n b) c 1 ∙ ap (λ (x : ℕ). bit_or x (c % 2)) (or_mod n b 1)
-    ∙ digit_assoc (n % 2) (b % 2) (c % 2) (mod-lt n two_pos) (mod-lt b two_pos) (mod-lt c two_pos)
-    ∙ sym (or_mod n (bit_or b c) 1 ∙ ap (bit_or (n % 2)) (or_mod b c 1))))
+or_assoc a b c =
+    same_from_bits (bit_or (bit_or a b) c) (bit_or a (bit_or b c))
+    (λ i. bit_at_or (bit_or a b) c i ∙ ap (λ x. max x (bit_at c i)) (bit_at_or a b i) ∙ max_assoc (bit_at a i) (bit_at b i) (bit_at c i)
+    ∙ sym (bit_at_or a (bit_or b c) i ∙ ap (max (bit_at a i)) (bit_at_or b c i)))
 
 pub or_joins : Joins bit_or (2 ^ 64 - 1)
 or_joins = record {

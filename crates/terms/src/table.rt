@@ -1,7 +1,7 @@
 // The term table: terms in falling order of their monomials, on rows that the caller lends.
 ghost use Rattle.std.specs.Prelude.{◌≡◌, ◌+◌, ◌-◌, ◌<◌, ◌≤◌, [], ◌∷◌, ◌++◌, length, take, drop, replicate, Some, None, Ok, Err};
 ghost use Rattle.std.specs.List.{between};
-ghost use Rattle.terms.specs.Terms.{Falling, place, Table, Added, Refused, TookFirst, blank};
+ghost use Rattle.terms.specs.Terms.{Falling, place, blank};
 ghost use Rattle.terms.specs.Lent.{live, capacity, Sound, Leads, Sum, NoRoom, Off};
 ghost use Rattle.terms.specs.Theorems.{AddsValue, AddsCoeff, OnlyOne};
 
@@ -34,7 +34,7 @@ fn open_row<M: Copy>(rows: &mut [Term<M>], at: usize, len: usize, t: Term<M>)
     requires room { len < length rows.old }
     ensures { rows.new ≡ take at rows.old ++ (t ∷ (between at len rows.old ++ drop (len + 1) rows.old)) }
 {
-    rows[at..=len].rotate_right(1);
+    rows.copy_within(at..len, at + 1);
     rows[at] = t;
 }
 
@@ -44,7 +44,17 @@ fn close_row<M: Copy>(rows: &mut [Term<M>], at: usize, len: usize, z: Term<M>)
     requires within { len ≤ length rows.old }
     ensures { rows.new ≡ take at rows.old ++ (between (at + 1) len rows.old ++ (z ∷ drop len rows.old)) }
 {
-    rows[at..len].rotate_left(1);
+    rows.copy_within(at + 1..len, at);
+    rows[len - 1] = z;
+}
+
+// The same at the first row: `rotate_left` moves a long run in parts, which costs less.
+fn drop_first<M: Copy>(rows: &mut [Term<M>], len: usize, z: Term<M>)
+    requires some { 0 < len }
+    requires within { len ≤ length rows.old }
+    ensures { rows.new ≡ between 1 len rows.old ++ (z ∷ drop len rows.old) }
+{
+    rows[..len].rotate_left(1);
     rows[len - 1] = z;
 }
 
@@ -66,6 +76,7 @@ pub struct Full;
 pub fn clear_rows<M: Copy, K: Kind<M>>(kind: &K, rows: &mut [Term<M>])
     ensures { rows.new ≡ replicate (length rows.old) (blank (K.model kind.now)) }
 {
+    // Not `fill`, which asks for a clone that never fails: `Copy` does not say so.
     let zero = zero_row(kind);
     rows.fill_with(|| zero);
 }
@@ -112,13 +123,13 @@ impl<'a, M: Copy> TermTable<'a, M> {
             let sum = self.rows[at].code ^ code;
             if sum == 0 {
                 close_row(self.rows, at, len, zero_row(kind));
-                self.len -= 1;
+                self.len = len - 1;
             } else {
                 self.rows[at].code = sum;
             }
         } else if len < self.rows.len() {
             open_row(self.rows, at, len, Term { code, mono });
-            self.len += 1;
+            self.len = len + 1;
         } else {
             return Err(Full);
         }
@@ -159,7 +170,7 @@ impl<'a, M: Copy> TermTable<'a, M> {
         ensures off { elim result [ Some t ↦ Off (K.model kind.now) t self.old self.new | None ↦ (live self.old ≡ []) × (self.new.rows.now ≡ self.old.rows.now) × (self.new.len ≡ self.old.len) ] }
     {
         let lead = self.lead()?;
-        close_row(self.rows, 0, self.len, zero_row(kind));
+        drop_first(self.rows, self.len, zero_row(kind));
         self.len -= 1;
         Some(lead)
     }

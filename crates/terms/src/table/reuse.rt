@@ -4,7 +4,7 @@ ghost use Rattle.terms.specs.Terms.{Table, blank};
 ghost use Rattle.terms.specs.Lent.{live, capacity, Sound};
 
 use super::{Full, TermTable, clear_rows};
-use crate::{Kind, Term};
+use crate::Kind;
 
 impl<'a, M: Copy> TermTable<'a, M> {
     // Empties the table, by the rows that its terms have.
@@ -26,12 +26,13 @@ impl<'a, M: Copy> TermTable<'a, M> {
         ensures same { self.new.rows.ghost_name ≡ self.old.rows.ghost_name }
         ensures copied { elim result [ Ok _ ↦ (live self.new ≡ live other.now) × Sound (K.model kind.now) self.new × (capacity self.new ≡ capacity self.old) | Err _ ↦ (capacity self.old < other.now.len) × (self.new.rows.now ≡ self.old.rows.now) × (self.new.len ≡ self.old.len) ] }
     {
-        if other.len > self.rows.len() {
+        let (len, n) = (self.len, other.len);
+        if n > self.rows.len() {
             return Err(Full);
         }
-        clear_rows(kind, &mut self.rows[..self.len]);
-        self.rows[..other.len].copy_from_slice(other.terms());
-        self.len = other.len;
+        clear_rows(kind, &mut self.rows[..len]);
+        self.rows[..n].copy_from_slice(other.terms());
+        self.len = n;
         Ok(())
     }
 }
