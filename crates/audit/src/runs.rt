@@ -20,6 +20,7 @@ use terms::nets::Nets;
 use terms::{Term, clear_rows};
 
 // Files a netlist, with as many rows as are named, or as are at hand.
+// It cuts the table itself, as the next two do: where a function hands out the first rows, no proof knows that the table keeps its length.
 fn file<F: Field>(
     shelf: &mut Shelf<F>,
     drawer: usize,
@@ -90,24 +91,24 @@ fn step<F: Field>(shelf: &mut Shelf<F>, entry: &Entry, tables: &mut LentTables) 
     ensures words { shelf.new.words ≡ shelf.old.words }
     ensures same { SameTables tables.old tables.new }
 {
-    match entry {
-        Entry::File { drawer, text, work } => file(shelf, *drawer, text, *work, tables),
+    match *entry {
+        Entry::File { drawer, text, work } => file(shelf, drawer, text, work, tables),
         Entry::FileCard {
             drawer,
             rows,
             first,
             second,
             result,
-        } => file_card(shelf, *drawer, rows, [*first, *second, *result], tables),
-        Entry::Withdraw { drawer } => shelf.withdraw(*drawer).err(),
-        Entry::Compare { left, right } => shelf.compare(*left, *right).err(),
-        Entry::Value { drawer, words } => shelf.value(*drawer, *words).err(),
+        } => file_card(shelf, drawer, rows, [first, second, result], tables),
+        Entry::Withdraw { drawer } => shelf.withdraw(drawer).err(),
+        Entry::Compare { left, right } => shelf.compare(left, right).err(),
+        Entry::Value { drawer, words } => shelf.value(drawer, words).err(),
         Entry::Card {
             drawer,
             first,
             second,
             card,
-        } => card_of(shelf, *drawer, [*first, *second, *card], tables),
+        } => card_of(shelf, drawer, [first, second, card], tables),
     }
 }
 
