@@ -26,13 +26,12 @@ impl<'a, M: Copy> TermTable<'a, M> {
         ensures same { self.new.rows.ghost_name ≡ self.old.rows.ghost_name }
         ensures copied { elim result [ Ok _ ↦ (live self.new ≡ live other.now) × Sound (K.model kind.now) self.new × (capacity self.new ≡ capacity self.old) | Err _ ↦ (capacity self.old < other.now.len) × (self.new.rows.now ≡ self.old.rows.now) × (self.new.len ≡ self.old.len) ] }
     {
-        let (len, n) = (self.len, other.len);
-        if n > self.rows.len() {
+        if other.len > self.rows.len() {
             return Err(Full);
         }
-        clear_rows(kind, &mut self.rows[..len]);
-        self.rows[..n].copy_from_slice(other.terms());
-        self.len = n;
+        self.rows[..other.len].copy_from_slice(other.terms());
+        clear_rows(kind, &mut self.rows[other.len..self.len.max(other.len)]);
+        self.len = other.len;
         Ok(())
     }
 }
