@@ -19,13 +19,13 @@ use Rattle.terms.specs.declared.Term.{Term}
 use Rattle.terms.specs.declared.nets.NetSet.{NetSet}
 use Rattle.terms.specs.BothKinds.{exp_laws}
 use Rattle.terms.proofs.Laws.{added_codes, added_monos, value_added}
-use Rattle.convert.specs.Convert.{block}
+use Rattle.convert.specs.Convert.{block, Reached}
 use Rattle.convert.specs.Products.{all_products}
 use Rattle.convert.specs.Owned.{Owned-prop}
 use Rattle.convert.specs.declared.places.Factors.{Factors}
 use Rattle.convert.proofs.Steps.{all_own, adding_monos, monos_append, monos_take, monos_drop}
 use Rattle.cards.specs.Law.{IsInput, card_value}
-use Rattle.cards.specs.Nested.{on_below, value_below, OwnTerms, Gained}
+use Rattle.cards.specs.Nested.{ByNet, on_below, value_below, OwnTerms, Gained}
 use Rattle.cards.specs.Sums.{bit_term, card_kind, BitSums}
 use Rattle.cards.proofs.Blocks.{block_is, bit_here, whole}
 use Rattle.cards.proofs.CardLaw.{own_row, value_plain, codes_plain}
@@ -42,22 +42,13 @@ codes_at P [] i d h u = absurd (omega arith)
 codes_at P (t ∷ ts) zero d h u = u.0
 codes_at P (t ∷ ts) (suc i) d h u = codes_at P ts i d (omega arith) u.1
 
-pub codes_next : {M : Type 0} (P : ℕ → Type 0) (ts : List (Term M)) (i : ℕ) (d : Term M) → i < length ts → Codes P (take i ts) → P (get_or ts i d).code → Codes P (take (i + 1) ts)
-codes_next {M} P ts i d h u p = subst (Codes P) (sym (take_more ts i d h)) (push (take i ts) u)
-  where
-    push : (ss : List (Term M)) → Codes P ss → Codes P (ss ++ (get_or ts i d ∷ []))
-    push [] v = (p, tt)
-    push (s ∷ ss) v = (v.0, push ss v.1)
+pub codes_front : {M : Type 0} (P : ℕ → Type 0) (ss ts : List (Term M)) → Codes P (ss ++ ts) → Codes P ss
+codes_front P [] ts u = tt
+codes_front P (s ∷ ss) ts u = (u.0, codes_front P ss ts u.1)
 
-pub codes_take : {M : Type 0} (P : ℕ → Type 0) (n : ℕ) (ts : List (Term M)) → Codes P ts → Codes P (take n ts)
-codes_take P zero ts u = tt
-codes_take P (suc n) [] u = tt
-codes_take P (suc n) (t ∷ ts) u = (u.0, codes_take P n ts u.1)
-
-pub codes_drop : {M : Type 0} (P : ℕ → Type 0) (n : ℕ) (ts : List (Term M)) → Codes P ts → Codes P (drop n ts)
-codes_drop P zero ts u = u
-codes_drop P (suc n) [] u = tt
-codes_drop P (suc n) (t ∷ ts) u = codes_drop P n ts u.1
+pub codes_back : {M : Type 0} (P : ℕ → Type 0) (ss ts : List (Term M)) → Codes P (ss ++ ts) → Codes P ts
+codes_back P [] ts u = u
+codes_back P (s ∷ ss) ts u = codes_back P ss ts u.1
 
 module _ (m : FieldData) (l : FieldLaws m) where
   abbrev q : ℕ
@@ -170,15 +161,18 @@ module _ (m : FieldData) (l : FieldLaws m) (k : KindModel (List ℕ)) (n : ℕ) 
       (subst (λ (k : KindModel (List ℕ)). Gained m k p cs [] is → OwnTerms m k ts → adding k cap (all_products k (product m) is (block m.width sums p)) ts ≡ done us → Gained m k (suc p) cs ts us)
       (sym kind) (product_gained m l n few sums b p (subst (λ z. p < z) places h) cap cs held is ts us)) g o e)
 
-  pub gained_product : (p : ℕ) → p < f.places → (cap : ℕ) (cs hs : List (Term NetSet)) → cs ≡ hs → Monos (λ s. holds s p ≡ true) hs → (zs is ts us fs : List (Term (List ℕ))) → zs ≡ [] → Gained m k p cs zs is
-      → OwnTerms m k ts → fs ≡ block f.width f.sums.now p → adding k cap (all_products k (product m) is fs) ts ≡ done us → Gained m k (suc p) cs ts us
-  gained_product p h cap cs hs eh held zs is ts us fs ez g o ef e =
-      by_sums p h cap cs (subst (Monos (λ s. holds s p ≡ true)) (sym eh) held) is ts us (subst (λ (z : List (Term (List ℕ))). Gained m k p cs z is) ez g) o
-      (subst (λ (z : List (Term (List ℕ))). adding k cap (all_products k (product m) is z) ts ≡ done us) ef e)
+  pub gained_product : {T E : Type 0} (p : ℕ) → p < f.places → (cap : ℕ) (cs : List (Term NetSet)) → Monos (λ s. holds s p ≡ true) cs → (zs is ts us fs : List (Term (List ℕ))) → zs ≡ [] → Gained m k p cs zs is
+      → OwnTerms m k ts → fs ≡ block f.width f.sums.now p → (r : Result T E) → Reached (adding k cap (all_products k (product m) is fs) ts) us us r → IfOk r (λ _. Gained m k (p + 1) cs ts us)
+  gained_product p h cap cs held zs is ts us fs ez g o ef (Ok x) e =
+      let up : suc p ≡ p + 1 = omega arith in
+      subst (λ (i : ℕ). Gained m k i cs ts us) up (by_sums p h cap cs held is ts us (subst (λ (z : List (Term (List ℕ))). Gained m k p cs z is) ez g) o
+      (subst (λ (z : List (Term (List ℕ))). adding k cap (all_products k (product m) is z) ts ≡ done us) ef e))
+  gained_product p h cap cs held zs is ts us fs ez g o ef (Err x) e = tt
 
 -- nothing is gained by no terms
-pub gained_none : (m : FieldData) (k : KindModel (List ℕ)) (p : ℕ) (ts : List (Term (List ℕ))) → OwnTerms m k ts → Gained m k p [] ts ts
-gained_none m k p ts o = record { own = o; values = λ xs x. refl }
+pub gained_none : (m : FieldData) (k : KindModel (List ℕ)) (p : ℕ) (cs : List (Term NetSet)) → length cs ≡ 0 → (ts : List (Term (List ℕ))) → OwnTerms m k ts → Gained m k p cs ts ts
+gained_none m k p [] e ts o = record { own = o; values = λ xs x. refl }
+gained_none m k p (c ∷ cs) e ts o = absurd (omega arith)
 
 -- what the terms that hold a net gain, and then those that lack it
 pub gained_both : (m : FieldData) (k : KindModel (List ℕ)) (p : ℕ) (cs bs : List (Term NetSet)) → Monos (λ s. holds s p ≡ false) bs → (ts us vs : List (Term (List ℕ)))
@@ -199,8 +193,11 @@ pub own_none : (m : FieldData) (k : KindModel (List ℕ)) (ts : List (Term (List
 own_none m k ts e = subst (OwnTerms m k) (sym e) (record { rows = tt; codes = tt })
 
 -- the same of a call that goes on with those that lack it
-pub gained_then : {T E : Type 0} (m : FieldData) (k : KindModel (List ℕ)) (net p : ℕ) → suc net ≡ p → (cs bs bits : List (Term NetSet)) → bits ≡ cs ++ bs → Monos (λ s. holds s net ≡ false) bs
-    → (ts us vs : List (Term (List ℕ))) → Gained m k (suc net) cs ts us → (r : Result T E) → IfOk r (λ _. Gained m k net bs us vs) → IfOk r (λ _. Gained m k p bits ts vs)
-gained_then m k net p up cs bs bits parts lack ts us vs first (Ok x) h =
-    subst (λ (i : ℕ). Gained m k i bits ts vs) up (subst (λ (z : List (Term NetSet)). Gained m k (suc net) z ts vs) (sym parts) (gained_both m k net cs bs lack ts us vs first h))
-gained_then m k net p up cs bs bits parts lack ts us vs first (Err e) h = tt
+pub gained_then : {T E : Type 0} (m : FieldData) (k : KindModel (List ℕ)) (net p : ℕ) → net + 1 ≡ p → (bits cs bs : List (Term NetSet)) → ByNet net bits cs bs → (ts us vs : List (Term (List ℕ)))
+    → Gained m k (net + 1) cs ts us → (r : Result T E) → IfOk r (λ _. Gained m k net bs us vs) → IfOk r (λ _. Gained m k p bits ts vs)
+gained_then m k net p up bits cs bs parts ts us vs first (Ok x) h =
+    let next : suc net ≡ p = omega arith in
+    let one : net + 1 ≡ suc net = omega arith in
+    let both = gained_both m k net cs bs parts.lacked ts us vs (subst (λ (i : ℕ). Gained m k i cs ts us) one first) h in
+    subst (λ (i : ℕ). Gained m k i bits ts vs) next (subst (λ (z : List (Term NetSet)). Gained m k (suc net) z ts vs) (sym parts.whole) both)
+gained_then m k net p up bits cs bs parts ts us vs first (Err e) h = tt

@@ -1,6 +1,7 @@
 -- What a test of every term of a list says, or of those at its front. Assumes nothing.
-use Rattle.std.proofs.Common.{◌≡◌, ℕ, suc, ◌+◌, ◌<◌, ◌≤◌, Bool, true, false, T, MatchBool, List, [], ◌∷◌, length, get_or, take, sym, ◌∙◌, subst, ⊎_elim, arith}
+use Rattle.std.proofs.Common.{◌≡◌, ℕ, suc, ◌+◌, ◌<◌, ◌≤◌, Bool, true, false, T, MatchBool, IfSome, List, [], ◌∷◌, length, get_or, take, sym, ◌∙◌, subst, ⊎_elim, arith}
 use Rattle.std.proofs.lemmas.Bool.{cases_Bool, cond-true, cond-false}
+use Rattle.std.specs.Bool.{then_some}
 use Rattle.std.specs.List.{AllWithin, prefix_len}
 use Rattle.terms.specs.Terms.{Codes, Monos}
 use Rattle.terms.specs.declared.Term.{Term}
@@ -9,6 +10,11 @@ use Rattle.terms.specs.declared.Term.{Term}
 pub passed : (A B : Type 0) (r : Bool) → MatchBool r A B → T r → A
 passed A B true a h = a
 passed A B false b h = absurd h
+
+-- what is given where a test holds
+pub given : {A : Type 0} (P : A → Type 0) (b : Bool) (x : A) → (T b → P x) → IfSome (then_some b x) P
+given P true x h = h tt
+given P false x h = tt
 
 -- the terms behind the first
 behind : {M : Type 0} (P : Term M → Type 0) (t : Term M) (ts : List (Term M)) → AllWithin P (t ∷ ts) 0 (length (t ∷ ts)) → AllWithin P ts 0 (length ts)

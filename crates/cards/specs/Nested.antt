@@ -1,5 +1,5 @@
 -- The card worked in nested form: net by net, from the greatest down. Assumes nothing.
-use Rattle.std.specs.Prelude.{◌≡◌, ℕ, ◌<◌, Bool, true, cond, not, ◌||◌, List, take, Some, None, Option, bit_xor}
+use Rattle.std.specs.Prelude.{◌≡◌, ℕ, ◌<◌, Bool, true, false, cond, not, ◌||◌, List, ◌++◌, take, Some, None, Option, bit_xor}
 use Rattle.algebra.specs.Codes.{Dual}
 use Rattle.algebra.specs.Field.{FieldData, size}
 use Rattle.convert.specs.Convert.{finished}
@@ -22,6 +22,12 @@ on_below p v s = every p (λ g. not (holds s g) || v g)
 -- the sum of the codes whose sets hold, of the nets below p, only one bits
 abbrev pub value_below : ℕ → (ℕ → Bool) → List (Term NetSet) → ℕ
 value_below p v ts = value (λ c s. cond (on_below p v s) c 0) ts
+
+-- the terms ss hold net p, and the terms ts behind them lack it
+pub record ByNet (p : ℕ) (bits ss ts : List (Term NetSet)) : Type 0 where
+  pub whole : bits ≡ ss ++ ts
+  pub held : Monos (λ s. holds s p ≡ true) ss
+  pub lacked : Monos (λ s. holds s p ≡ false) ts
 
 -- rows of the kind, with codes of the field
 pub record OwnTerms (m : FieldData) (k : KindModel (List ℕ)) (ts : List (Term (List ℕ))) : Type 0 where

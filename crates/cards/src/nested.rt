@@ -1,11 +1,11 @@
 // The card in nested form: the terms that hold a net are worked together, and their sum is multiplied once by that net's sum.
-ghost use Rattle.std.specs.Prelude.{◌≡◌, ◌*◌, ◌^◌, ◌<◌, ◌≤◌, true, false, T, [], length, take, IfOk};
+ghost use Rattle.std.specs.Prelude.{◌≡◌, ◌+◌, ◌*◌, ◌^◌, ◌<◌, ◌≤◌, true, T, [], length, take, IfSome, IfOk};
 ghost use Rattle.algebra.specs.Field.{size};
 ghost use Rattle.terms.specs.Exps.{exp_model, tops_for};
 ghost use Rattle.terms.specs.Lent.{live, Kept};
 ghost use Rattle.terms.specs.Sets.{holds, Within};
 ghost use Rattle.terms.specs.Terms.{Codes, Monos, Table};
-ghost use Rattle.cards.specs.Nested.{CardTable, Gained, Finishes, NestedAnswer};
+ghost use Rattle.cards.specs.Nested.{ByNet, CardTable, Gained, Finishes, NestedAnswer};
 ghost use Rattle.cards.specs.Sums.{BitSums};
 
 use crate::shapes::shapes_fit;
@@ -18,19 +18,14 @@ use terms::{Full, Kind, Term, TermTable};
 // The rows of an inner table.
 const INNER: usize = 256;
 
-// How many terms at the front hold net `p`.
-fn leading(bits: &[Term<NetSet>], p: usize) -> usize
-    ensures within { result ≤ length bits.now }
-    ensures held { Monos (λ s. holds s p ≡ true) (take result bits.now) }
+// The terms that hold net `p` and the others, where those stand first.
+fn by_net(bits: &[Term<NetSet>], p: usize) -> Option<(&[Term<NetSet>], &[Term<NetSet>])>
+    ensures { IfSome result (λ x. ByNet p bits.now x.0.now x.1.now) }
 {
-    bits.iter().take_while(|t| t.mono.has(p)).count()
-}
-
-// Whether no term holds net `p`.
-fn absent(bits: &[Term<NetSet>], p: usize) -> bool
-    ensures { T result → Monos (λ s. holds s p ≡ false) bits.now }
-{
-    bits.iter().all(|t| !t.mono.has(p))
+    let n = bits.iter().take_while(|t| t.mono.has(p)).count();
+    let (with, without) = bits.split_at(n);
+    let in_order = without.iter().all(|t| !t.mono.has(p));
+    in_order.then_some((with, without))
 }
 
 // Whether every net of the set is below `places`.
@@ -91,7 +86,33 @@ impl<F: Field> Nested<'_, F> {
         Ok(())
     }
 
-    // Adds the sum of the terms to `out`, of whose nets those below `p` count; gives up where a table is full, or the terms do not fall.
+    // Adds the sum of the terms, of whose nets those up to `net` count; each holds `net`, so they are worked without it, and their sum is multiplied by its factor.
+    #[cycle(nested)]
+    fn add_held(
+        &self,
+        bits: &[Term<NetSet>],
+        net: usize,
+        out: &mut TermTable<[u16; 3]>,
+    ) -> Result<(), Full>
+        requires place { net < self.now.conversion.factors.places }
+        requires held { Monos (λ s. holds s net ≡ true) bits.now }
+        requires codes { Codes (λ c. c < size (F.model self.now.conversion.ring.field.now)) bits.now }
+        requires out { CardTable (F.model self.now.conversion.ring.field.now) (exp_model self.now.conversion.ring.kind.now.tops) out.old }
+        ensures out { Kept (exp_model self.now.conversion.ring.kind.now.tops) out.old out.new }
+        ensures sum { IfOk result (λ _. Gained (F.model self.now.conversion.ring.field.now) (exp_model self.now.conversion.ring.kind.now.tops) (net + 1) bits.now (live out.old) (live out.new)) }
+    {
+        let mut rows = [Term {
+            code: 0,
+            mono: [0; 3],
+        }; INNER];
+        let mut inner = TermTable::new(self.conversion.ring.kind, &mut rows);
+        self.add_nested(bits, net, &mut inner)?;
+        let factor = self.conversion.factors.at(net);
+        self.conversion.ring.multiply(&inner, factor, out)
+    }
+
+    // Adds the sum of the terms, of whose nets those below `p` count; gives up where a table is full, or the terms do not fall.
+    #[cycle(nested)]
     fn add_nested(
         &self,
         bits: &[Term<NetSet>],
@@ -108,22 +129,10 @@ impl<F: Field> Nested<'_, F> {
             return self.add_codes(bits, out);
         }
         let net = p - 1;
-        let n = leading(bits, net);
-        let (with, without) = bits.split_at(n);
-        if !absent(without, net) {
-            return Err(Full);
+        let (with, without) = by_net(bits, net).ok_or(Full)?;
+        if !with.is_empty() {
+            self.add_held(with, net, out)?;
         }
-        if n == 0 {
-            return self.add_nested(without, net, out);
-        }
-        let mut rows = [Term {
-            code: 0,
-            mono: [0; 3],
-        }; INNER];
-        let mut inner = TermTable::new(self.conversion.ring.kind, &mut rows);
-        self.add_nested(with, net, &mut inner)?;
-        let factor = self.conversion.factors.at(net);
-        self.conversion.ring.multiply(&inner, factor, out)?;
         self.add_nested(without, net, out)
     }
 
