@@ -1,5 +1,5 @@
 -- What additions to a table gain in value, where the terms under a net are worked together. Assumes nothing.
-use Rattle.std.proofs.Common.{◌≡◌, ℕ, zero, suc, ◌+◌, ◌*◌, ◌/◌, ◌%◌, ◌<◌, ◌≤◌, true, false, cond, List, [], ◌∷◌, ◌++◌, length, get_or, take, drop, Ok, Err, Result, IfOk, sym, refl, ap, ◌∙◌, subst, ap₂, subst₂, ⊎_elim, mod-lt, div-lt_iff_lt-mul, arith, pow_pos}
+use Rattle.std.proofs.Common.{◌≡◌, ℕ, zero, suc, ◌+◌, ◌*◌, ◌/◌, ◌%◌, ◌<◌, ◌≤◌, true, false, cond, List, [], ◌∷◌, ◌++◌, length, get_or, take, Ok, Err, Result, IfOk, sym, refl, ap, ◌∙◌, subst, ap₂, ⊎_elim, mod-lt, div-lt_iff_lt-mul, arith, pow_pos}
 use lib.Bits.{bit_xor, xor_comm, xor_assoc, xor_zero_r, xor_lt}
 use mathlib.Core.Logic.{∥∥₁_elim}
 use native.Mathlib.Nat.{ℕ_set}
@@ -187,10 +187,6 @@ gained_both m k p cs bs lack ts us vs g h = record {
       h.values xs x ∙ ap (bit_xor b) (g.values xs x) ∙ sym (xor_assoc b a c)
       ∙ ap (λ (z : ℕ). bit_xor z c) (xor_comm b a ∙ ap (bit_xor a) (sym (value_without v p bs lack)) ∙ sym (value_append (λ c s. cond (on_below (suc p) v s) c 0) cs bs));
 }
-
--- no terms are terms of the kind
-pub own_none : (m : FieldData) (k : KindModel (List ℕ)) (ts : List (Term (List ℕ))) → ts ≡ [] → OwnTerms m k ts
-own_none m k ts e = subst (OwnTerms m k) (sym e) (record { rows = tt; codes = tt })
 
 -- the same of a call that goes on with those that lack it
 pub gained_then : {T E : Type 0} (m : FieldData) (k : KindModel (List ℕ)) (net p : ℕ) → net + 1 ≡ p → (bits cs bs : List (Term NetSet)) → ByNet net bits cs bs → (ts us vs : List (Term (List ℕ)))

@@ -1,5 +1,5 @@
 -- What a test of every term of a list says, or of those at its front. Assumes nothing.
-use Rattle.std.proofs.Common.{◌≡◌, ℕ, suc, ◌+◌, ◌<◌, ◌≤◌, Bool, true, false, T, MatchBool, IfSome, List, [], ◌∷◌, length, get_or, take, sym, ◌∙◌, subst, ⊎_elim, arith}
+use Rattle.std.proofs.Common.{◌≡◌, ℕ, suc, ◌+◌, Bool, true, false, T, MatchBool, IfSome, List, [], ◌∷◌, length, take, sym, ◌∙◌, subst, ⊎_elim, arith}
 use Rattle.std.proofs.lemmas.Bool.{cases_Bool, cond-true, cond-false}
 use Rattle.std.specs.Bool.{then_some}
 use Rattle.std.specs.List.{AllWithin, prefix_len}

@@ -18,7 +18,7 @@ use terms::{Term, clear_rows};
 // The most terms of a bit form.
 const MAX_TERMS: usize = 256;
 
-// The working for at most three words, which ends with as many terms as it may.
+// The working for at most three words, however many terms it ends with.
 fn work<F: Field>(
     field: &F,
     n: usize,
@@ -58,8 +58,8 @@ pub fn to_bits<F: Field>(
     ensures second { second.new ≡ replicate (length second.old) (blank net_model) }
     ensures bits { BitsAnswered (F.model field.now) (word_count n) (min (length first.old) (length second.old)) (length bits.old) card.now bits.new result }
 {
-    let terms =
-        work(field, n.clamp(1, 3), card, first, second, bits).map_err(|_| Fault::BitTableFull)?;
+    let n = n.clamp(1, 3);
+    let terms = work(field, n, card, first, second, bits).map_err(|_| Fault::BitTableFull)?;
     if terms > MAX_TERMS {
         clear_rows(&Nets, bits);
         return Err(Fault::TooManyBitTerms);

@@ -40,8 +40,7 @@ fn in_words(bits: &[Term<NetSet>], order: u16, places: usize) -> bool
     ensures codes { T result → Codes (λ c. c < order) bits.now }
     ensures nets { T result → Monos (Within places) bits.now }
 {
-    bits.iter()
-        .all(|t| t.code < order && below(t.mono, places))
+    bits.iter().all(|t| t.code < order && below(t.mono, places))
 }
 
 // Whether tables of `cap` and `count` rows have a row for each product of powers of `n` words.
@@ -69,11 +68,7 @@ pub(crate) struct Nested<'a, F: Field> {
 
 impl<F: Field> Nested<'_, F> {
     // Adds each code, with the unit.
-    fn add_codes(
-        &self,
-        bits: &[Term<NetSet>],
-        out: &mut TermTable<[u16; 3]>,
-    ) -> Result<(), Full>
+    fn add_codes(&self, bits: &[Term<NetSet>], out: &mut TermTable<[u16; 3]>) -> Result<(), Full>
         requires codes { Codes (λ c. c < size (F.model self.now.conversion.ring.field.now)) bits.now }
         requires out { CardTable (F.model self.now.conversion.ring.field.now) (exp_model self.now.conversion.ring.kind.now.tops) out.old }
         ensures out { Kept (exp_model self.now.conversion.ring.kind.now.tops) out.old out.new }

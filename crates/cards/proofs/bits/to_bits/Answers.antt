@@ -15,7 +15,7 @@ pub returns-in_err-terms-clause-bits : goal.returns-in_err-terms-clause-bits
 returns-in_err-terms-clause-bits g c =
     let m = g.F.Field.model c.args.field.now in
     let l = g.met.F.Field.holds c.args.field.now in
-    let n = c.clamp.result in
+    let n = c.clamp-n.result in
     let card = c.args.card.now in
     let rows = c.work.new.bits in
     let cap = min (length c.args.first.now) (length c.args.second.now) in
@@ -31,18 +31,18 @@ pub returns-then-terms-gt-MAX_TERMS-clause-bits : goal.returns-then-terms-gt-MAX
 returns-then-terms-gt-MAX_TERMS-clause-bits g c =
     let m = g.F.Field.model c.args.field.now in
     let l = g.met.F.Field.holds c.args.field.now in
-    let words : c.clamp.result ≡ word_count c.args.n = omega arith in
-    let few : c.clamp.result ≤ 3 = omega arith in
+    let words : c.clamp-n.result ≡ word_count c.args.n = omega arith in
+    let few : c.clamp-n.result ≤ 3 = omega arith in
     let was : c.work.result ≡ Ok c.in_ok-terms.terms = grind (arith, common_steps) in
-    rw (sym words) (bits_many m l c.clamp.result few (min (length c.args.first.now) (length c.args.second.now)) (length c.args.bits.now) c.args.card.now c.work.new.bits c.in_ok-terms.terms
-        c.if-terms-gt-MAX_TERMS.true (rw was at c.work.ensures.bits) c.clear_rows.new.rows (search rules))
+    rw (sym words) (bits_many m l c.clamp-n.result few (min (length c.args.first.now) (length c.args.second.now)) (length c.args.bits.now) c.args.card.now c.work.new.bits c.in_ok-terms.terms
+    c.if-terms-gt-MAX_TERMS.true (rw was at c.work.ensures.bits) c.clear_rows.new.rows (search rules))
 
 pub returns-clause-bits : goal.returns-clause-bits
 returns-clause-bits g c =
     let m = g.F.Field.model c.args.field.now in
     let l = g.met.F.Field.holds c.args.field.now in
-    let words : c.clamp.result ≡ word_count c.args.n = omega arith in
-    let few : c.clamp.result ≤ 3 = omega arith in
+    let words : c.clamp-n.result ≡ word_count c.args.n = omega arith in
+    let few : c.clamp-n.result ≤ 3 = omega arith in
     let was : c.work.result ≡ Ok c.in_ok-terms.terms = grind (arith, common_steps) in
-    rw (sym words) (bits_ok m l c.clamp.result few (min (length c.args.first.now) (length c.args.second.now)) (length c.args.bits.now) c.args.card.now c.work.new.bits c.in_ok-terms.terms
-        c.if-terms-gt-MAX_TERMS.false (rw was at c.work.ensures.bits))
+    rw (sym words) (bits_ok m l c.clamp-n.result few (min (length c.args.first.now) (length c.args.second.now)) (length c.args.bits.now) c.args.card.now c.work.new.bits c.in_ok-terms.terms
+    c.if-terms-gt-MAX_TERMS.false (rw was at c.work.ensures.bits))

@@ -1,4 +1,4 @@
-use Rattle.std.proofs.Common.{◌≡◌, ◌*◌, min, length, subst, subst₂}
+use Rattle.std.proofs.Common.{min, length, subst, subst₂}
 use Rattle.algebra.specs.Field.{product}
 use Rattle.convert.specs.Convert.{factors_of, Answered}
 use Rattle.convert.specs.Places.{row_held}

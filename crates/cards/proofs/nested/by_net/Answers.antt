@@ -1,4 +1,4 @@
-use Rattle.std.proofs.Common.{◌≡◌, ℕ, true, false, take, sym, ◌∙◌, subst, rules, tests}
+use Rattle.std.proofs.Common.{◌≡◌, true, false, take, sym, ◌∙◌, subst, rules, tests}
 use Rattle.std.specs.Bool.{⊤}
 use Rattle.std.specs.List.{prefix_len}
 use Rattle.std.proofs.lemmas.Iterator.{YieldsList-from_slice, cases_from_all}

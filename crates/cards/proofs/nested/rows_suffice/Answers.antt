@@ -1,4 +1,4 @@
-use Rattle.std.proofs.Common.{◌^◌, ◌≤◌, sym, subst, arith, lit<}
+use Rattle.std.proofs.Common.{◌^◌, ◌≤◌, arith, lit<}
 use native.Mathlib.Nat.{pow-le-pow_left, pow-le-pow_right}
 use Rattle.cards.proofs.nested.rows_suffice.Goals as goal
 

@@ -1,8 +1,7 @@
-use Rattle.std.proofs.Common.{◌≡◌, ℕ, ◌*◌, min, List, length, Some, sym, ap, ◌∙◌, subst, subst₂, rules}
-use Rattle.algebra.specs.Field.{size, product}
+use Rattle.std.proofs.Common.{◌≡◌, ℕ, min, length, Some, sym, ap, ◌∙◌, subst, subst₂, rules}
+use Rattle.algebra.specs.Field.{product}
 use Rattle.convert.specs.Convert.{factors_of, Answered}
 use Rattle.convert.specs.Owned.{Owned}
-use Rattle.convert.specs.declared.FullTable.{FullTable}
 use Rattle.terms.specs.Exps.{exp_model, tops_for}
 use Rattle.terms.specs.Sets.{holds}
 use Rattle.cards.specs.Nested.{NestedAnswer}
@@ -35,9 +34,9 @@ returns-in_default-clause-card g c =
     subst₂ (λ r f. Answered (exp_model r.kind.now.tops) (product (g.F.Field.model r.field.now)) cap count (λ s. factors_of f (holds s)) bits rows c.convert.result) parts.ring parts.factors
     (rw (sym c.answer.auto.card) c.convert.ensures.worked) in
     mapped (Answered (card_kind m n) (product m) cap count (bit_factors m n b.dual) bits rows) (CardAnswered m n cap count bits rows) _
-        (answered_ok m l n c.requires b.dual b.duals cap count bits rows)
-        (λ t e p. answered_err m l n c.requires b.dual b.duals cap count bits rows t e (search rules)) c.convert.result
-        (answered_by m l n c.bit_sums-sums.result c.requires b _ c.width-width.result cap count bits rows c.convert.result kind c.width-width.ensures worked) c.map_err.result c.map_err.ensures.cases
+    (answered_ok m l n c.requires b.dual b.duals cap count bits rows)
+    (λ t e p. answered_err m l n c.requires b.dual b.duals cap count bits rows t e (search rules)) c.convert.result
+    (answered_by m l n c.bit_sums-sums.result c.requires b _ c.width-width.result cap count bits rows c.convert.result kind c.width-width.ensures worked) c.map_err.result c.map_err.ensures.cases
 
 pub returns-clause-card : goal.returns-clause-card
 returns-clause-card g c =

@@ -1,4 +1,4 @@
-use Rattle.std.proofs.Common.{◌≡◌, ℕ, suc, ◌+◌, ◌-◌, ◌*◌, ◌<◌, ◌≤◌, List, [], length, take, sym, ap, subst, arith}
+use Rattle.std.proofs.Common.{◌≡◌, ℕ, ◌+◌, ◌-◌, ◌*◌, ◌<◌, ◌≤◌, [], length, take, ap, arith}
 use Rattle.std.proofs.lemmas.Bool.Decides.{nat_tests}
 use Rattle.algebra.specs.Field.{size}
 use Rattle.convert.proofs.Steps.{block_owned}
@@ -23,7 +23,7 @@ add_held-returns-clause-sum g t c =
     let k = exp_model ring.kind.now.tops in
     let empty : live c.new-inner.result ≡ [] = ap (λ (i : ℕ). take i c.new-inner.result.rows.now) c.new-inner.ensures.len in
     gained_product m l k self.words self.few (ap exp_model self.tops) self.conversion.factors self.width self.places self.sums c.args.net c.requires.place (capacity c.args.out.now) c.args.bits.now c.requires.held
-        (live c.new-inner.result) (live c.add_nested.new.out) (live c.args.out.now) (live c.multiply.new.out) c.at-factor.result.now empty c.in_ok-add_nested.ensures.sum c.requires.out.own c.at-factor.ensures c.multiply.result c.multiply.ensures.sum
+    (live c.new-inner.result) (live c.add_nested.new.out) (live c.args.out.now) (live c.multiply.new.out) c.at-factor.result.now empty c.in_ok-add_nested.ensures.sum c.requires.out.own c.at-factor.ensures c.multiply.result c.multiply.ensures.sum
 
 pub add_nested-add_held-requires : goal.add_nested-add_held-requires
 add_nested-add_held-requires g t c κs within =

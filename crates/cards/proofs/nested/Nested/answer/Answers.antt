@@ -1,9 +1,8 @@
-use Rattle.std.proofs.Common.{ℕ, ◌<◌, sym, ap, subst}
+use Rattle.std.proofs.Common.{ℕ, ◌<◌, ap, subst}
 use Rattle.terms.specs.Exps.{exp_model}
 use Rattle.terms.specs.Sets.{Within}
 use Rattle.terms.specs.Terms.{Codes, Monos}
 use Rattle.cards.specs.Law.{BitTerms}
-use Rattle.cards.specs.Nested.{NestedAnswer}
 use Rattle.cards.proofs.Ending.{nested_answer}
 use Rattle.cards.proofs.nested.Nested.answer.Goals as goal
 

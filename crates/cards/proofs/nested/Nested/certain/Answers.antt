@@ -1,4 +1,4 @@
-use Rattle.std.proofs.Common.{ℕ, ◌*◌, ◌^◌, ◌<◌, ◌≤◌, ◌∙◌, subst, arith, pow_mono}
+use Rattle.std.proofs.Common.{ℕ, ◌*◌, ◌^◌, ◌≤◌, ◌∙◌, subst, arith, pow_mono}
 use Rattle.algebra.specs.Field.{size}
 use Rattle.cards.specs.Shapes.{ShapesFit}
 use Rattle.cards.proofs.CardLaw.{enough}

@@ -4,7 +4,6 @@ use Rattle.algebra.specs.Field.{product}
 use Rattle.terms.specs.Lent.{live, capacity}
 use Rattle.terms.specs.Additions.{done, full, adding}
 use Rattle.convert.specs.Convert.{block, chosen}
-use Rattle.convert.specs.Owned.{Owned}
 use Rattle.convert.specs.Products.{all_products}
 use Rattle.convert.proofs.Midway.{Midway, factor_more, factor_full}
 use Rattle.convert.proofs.Steps.{block_owned, chosen_held, chosen_not}
