@@ -26,7 +26,9 @@ fn heading(line: &[u8]) -> Option<(&[u8], usize)> {
     let mut size = 0usize;
     for b in &line[space + 1..] {
         if b.is_ascii_digit() {
-            size = size.saturating_mul(10).saturating_add(usize::from(*b - b'0'));
+            size = size
+                .saturating_mul(10)
+                .saturating_add(usize::from(*b - b'0'));
         }
     }
     Some((&line[..space], size))
