@@ -1,6 +1,6 @@
 -- The set of one net, a net taken out of a set, and the greatest net of a set. Assumes nothing.
-use Rattle.std.proofs.Common.{◌≡◌, ℕ, zero, suc, ◌+◌, ◌-◌, ◌*◌, ◌/◌, ◌%◌, ◌^◌, ◌<◌, ◌≤◌, min, Bool, true, false, cond, not, ◌&&◌, ◌||◌, eqb, leb, List, [], ◌∷◌, length, get_or, set, replicate, sym, refl, ap, ◌∙◌, subst, ap₂, ⊎_elim, mod-lt, mod-eq_of_lt, div-add-mod', mul-div_cancel, arith, pow_pos, pow_mono, pow-add}
-use native.Mathlib.Nat.{div-eq_of_lt, div-eq_of_lt-le, div_self, zero-div}
+use Rattle.std.proofs.Common.{◌≡◌, ℕ, zero, suc, ◌+◌, ◌-◌, ◌*◌, ◌/◌, ◌%◌, ◌^◌, ◌<◌, ◌≤◌, min, Bool, true, false, not, ◌&&◌, ◌||◌, eqb, leb, List, [], ◌∷◌, length, get_or, set, replicate, sym, refl, ap, ◌∙◌, subst, ap₂, ⊎_elim, mod-lt, div-add-mod', arith, pow_pos, pow_mono}
+use native.Mathlib.Nat.{div-eq_of_lt, div-eq_of_lt-le, zero-div}
 use lib.Bits.{bit_and, and_lt}
 use mir.Syntax.{w64}
 use Rattle.std.specs.Int.{bit_at}

@@ -1,9 +1,10 @@
 -- Counts: of one bits by places, and of the nets of a set. Assumes nothing.
-use Rattle.std.proofs.Common.{◌≡◌, ℕ, zero, suc, ◌+◌, ◌*◌, ◌/◌, ◌%◌, ◌^◌, ◌<◌, ◌≤◌, Bool, true, false, cond, eqb, sum_by, List, length, get_or, sym, refl, ap, ◌∙◌, subst, ap₂, mod-lt, mul_comm, add_comm, div-add-mod', zero-add, arith, pow_pos}
+use Rattle.std.proofs.Common.{◌≡◌, ℕ, zero, suc, ◌+◌, ◌*◌, ◌/◌, ◌%◌, ◌^◌, ◌<◌, ◌≤◌, Bool, true, cond, eqb, sum_by, List, length, get_or, sym, refl, ap, ◌∙◌, subst, ap₂, mod-lt, mul_comm, add_comm, div-add-mod', zero-add, arith, pow_pos}
 use native.Mathlib.Nat.{add-mul-div_left, div-eq_of_lt}
 use lib.Count.{ones, ones_cat}
 use Rattle.std.proofs.lemmas.Nat.{div_below}
-use Rattle.std.proofs.lemmas.Bool.{false≢true, cond_both}
+use Rattle.std.proofs.lemmas.Bool.{cond_both}
+use Rattle.std.proofs.lemmas.Bool.Decides.{nat_tests}
 use Rattle.std.proofs.lemmas.List.Recursion.{is_sum_by}
 use Rattle.terms.specs.Counts.{count, nets_in, net_set, weight}
 use Rattle.terms.specs.Sets.{holds, Own}
@@ -20,13 +21,7 @@ count_same (suc n) p q e = ap₂ (λ b c. cond b (suc c) c) (e n (omega arith)) 
 pub count_more : (n : ℕ) (p q : ℕ → Bool) → ((i : ℕ) → p i ≡ true → q i ≡ true) → count n p ≤ count n q
 unfolding count
 count_more zero p q e = omega arith
-count_more (suc n) p q e = go (p n) (q n) (e n) (count_more n p q e)
-  where
-    go : (a b : Bool) → (a ≡ true → b ≡ true) → {c d : ℕ} → c ≤ d → cond a (suc c) c ≤ cond b (suc d) d
-    go true true f l = omega arith
-    go true false f l = absurd (false≢true (f refl))
-    go false true f l = omega arith
-    go false false f l = l
+count_more (suc n) p q e = let h = count_more n p q e in let f = e n in grind (arith, nat_tests)
 
 -- a bit more at the top
 top_bit : (n q r : ℕ) → q < 2 → r < 2 ^ n → count n (λ i. eqb (r / 2 ^ i % 2) 1) ≡ ones r → count (suc n) (λ i. eqb ((r + 2 ^ n * q) / 2 ^ i % 2) 1) ≡ ones (r + 2 ^ n * q)

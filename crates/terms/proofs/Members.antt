@@ -1,5 +1,5 @@
 -- Net sets by their members. Assumes nothing.
-use Rattle.std.proofs.Common.{◌≡◌, ℕ, zero, suc, ◌+◌, ◌-◌, ◌/◌, ◌%◌, ◌^◌, ◌<◌, ◌≤◌, max, true, false, ◌||◌, ◌⊎◌, inl, inr, eqb, leb, List, [], ◌∷◌, reverse, length, get_or, replicate, sym, refl, ap, ◌∙◌, ap₂, ⊎_elim, mod-lt, div-add-mod', div-one, arith, pow_mono, shr-shr}
+use Rattle.std.proofs.Common.{◌≡◌, ℕ, zero, suc, ◌+◌, ◌-◌, ◌/◌, ◌%◌, ◌^◌, ◌<◌, ◌≤◌, max, true, false, ◌||◌, ◌⊎◌, inl, inr, eqb, leb, List, [], ◌∷◌, reverse, length, get_or, replicate, sym, refl, ap, ◌∙◌, ap₂, ⊎_elim, mod-lt, arith, pow_mono}
 use native.Mathlib.Nat.{div-eq_of_lt, div-eq_of_lt-le, zero-div}
 use lib.Bits.{bit_or, bit_xor, xor_lt}
 use lib.Count.{leading_top}
@@ -7,12 +7,11 @@ use Rattle.std.proofs.Math.Nat.{eq-zero-or-pos}
 use Rattle.std.specs.Int.{bit_at}
 use Rattle.std.proofs.lemmas.Nat.Bits.{bit_at_lowest, bit_at-suc, bit_at-zero, bit_at_or, bit_at_xor, bit_at-lt, bit_at_above, same_from_bits}
 use Rattle.std.proofs.lemmas.Bool.Decides.{nat_tests}
-use Rattle.std.proofs.lemmas.Bool.{cases_Bool, cases_order, cases_lt, true≢false, false≢true, eqb-true, eqb-false, and_parts, leb-true}
+use Rattle.std.proofs.lemmas.Bool.{cases_Bool, cases_lt, true≢false, false≢true, eqb-true, eqb-false, and_parts, leb-true}
 use Rattle.terms.specs.Numbers.{lex, inside, paired}
 use Rattle.terms.specs.Nets.{net_model, full_words}
 use Rattle.terms.specs.declared.nets.NetSet.{NetSet}
 use Rattle.terms.proofs.Laws.{lower, higher, level, stands}
-use Rattle.terms.specs.NumbersLemmas.{lex_higher, lex_level}
 use Rattle.terms.specs.BothKinds.{net_laws, as_four, inside_at, inside_length}
 use Rattle.terms.specs.Counts.{rank}
 use Rattle.terms.specs.Sets.{holds, Own, Greatest, NetLaws}
@@ -28,20 +27,7 @@ never e = absurd (true≢false e)
 -- the highest word that differs decides the order of the numbers
 four_less : (a b c d p q r s : ℕ) → a < 2 ^ 64 → b < 2 ^ 64 → c < 2 ^ 64 → d < 2 ^ 64 → p < 2 ^ 64 → q < 2 ^ 64 → r < 2 ^ 64 → s < 2 ^ 64
     → lex (d ∷ (c ∷ (b ∷ (a ∷ [])))) (s ∷ (r ∷ (q ∷ (p ∷ [])))) ≡ true → rank 64 (a ∷ (b ∷ (c ∷ (d ∷ [])))) < rank 64 (p ∷ (q ∷ (r ∷ (s ∷ []))))
-four_less a b c d p q r s ha hb hc hd hp hq hr hs e =
-    ⊎_elim
-    (λ e3. let f3 = sym (lex_level d s (c ∷ (b ∷ (a ∷ []))) (r ∷ (q ∷ (p ∷ []))) e3) ∙ e in
-    ⊎_elim
-    (λ e2. let f2 = sym (lex_level c r (b ∷ (a ∷ [])) (q ∷ (p ∷ [])) e2) ∙ f3 in
-    ⊎_elim
-    (λ e1. let f1 = sym (lex_level b q (a ∷ []) (p ∷ []) e1) ∙ f2 in
-    ⊎_elim (λ e0. never (sym f1 ∙ lex_level a p [] [] e0)) (⊎_elim (λ l. omega arith) (λ l. never (sym f1 ∙ lex_higher a p [] [] l))) (cases_order a p))
-    (⊎_elim (λ l. omega arith) (λ l. never (sym f2 ∙ lex_higher b q (a ∷ []) (p ∷ []) l)))
-    (cases_order b q))
-    (⊎_elim (λ l. omega arith) (λ l. never (sym f3 ∙ lex_higher c r (b ∷ (a ∷ [])) (q ∷ (p ∷ [])) l)))
-    (cases_order c r))
-    (⊎_elim (λ l. omega arith) (λ l. never (sym e ∙ lex_higher d s (c ∷ (b ∷ (a ∷ []))) (r ∷ (q ∷ (p ∷ []))) l)))
-    (cases_order d s)
+four_less a b c d p q r s ha hb hc hd hp hq hr hs e = grind (arith, nat_tests)
 
 word_lt : (xs : List ℕ) (i : ℕ) → i < 4 → inside full_words xs ≡ true → get_or full_words i 0 ≡ 2 ^ 64 - 1 → get_or xs i 0 < 2 ^ 64
 word_lt xs i h e f = omega (arith, inside_at full_words xs i h e)

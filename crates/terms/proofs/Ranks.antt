@@ -1,6 +1,6 @@
 -- The number that words of k bits make: its bits, its size, and how many of its bits are one. Assumes nothing.
-use Rattle.std.proofs.Common.{◌≡◌, ℕ, zero, suc, ◌+◌, ◌-◌, ◌*◌, ◌/◌, ◌%◌, ◌^◌, ◌<◌, List, [], ◌∷◌, length, get_or, sym, refl, ap, ◌∙◌, ap₂, ⊎_elim, mod-eq_of_lt, mul_assoc, mul_comm, add_comm, zero-add, mul-suc, arith, pow_pos, pow-add, shr-shr}
-use native.Mathlib.Nat.{div-eq_of_lt, zero-div, add-mul-div_left, add-mul-div_right, add-mul-mod_self_right, add-div_left, add-mod_left}
+use Rattle.std.proofs.Common.{◌≡◌, ℕ, zero, suc, ◌+◌, ◌-◌, ◌*◌, ◌/◌, ◌%◌, ◌^◌, ◌<◌, List, [], ◌∷◌, length, get_or, sym, refl, ap, ◌∙◌, ap₂, ⊎_elim, mod-eq_of_lt, mul_comm, add_comm, mul-suc, arith, pow_pos, pow-add}
+use native.Mathlib.Nat.{div-eq_of_lt, add-div_left, add-mod_left}
 use lib.Count.{ones, ones_cat}
 use Rattle.std.proofs.lemmas.Nat.Bits.{bit_at-zero, bit_at_cat_low, bit_at_cat_high}
 use Rattle.std.proofs.lemmas.Nat.{mul-add-lt}

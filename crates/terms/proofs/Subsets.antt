@@ -1,5 +1,5 @@
 -- Subsets word by word, and the sets of the first 64 nets. Assumes nothing.
-use Rattle.std.proofs.Common.{◌≡◌, ℕ, zero, suc, ◌+◌, ◌-◌, ◌*◌, ◌/◌, ◌%◌, ◌^◌, ◌<◌, ◌≤◌, Bool, true, false, not, ◌&&◌, ◌||◌, eqb, List, [], ◌∷◌, length, get_or, sym, refl, ap, ◌∙◌, subst, ap₂, ⊎_elim, mod-lt, mod-eq_of_lt, div-add-mod', arith, pow_pos, pow_mono}
+use Rattle.std.proofs.Common.{◌≡◌, ℕ, zero, suc, ◌+◌, ◌-◌, ◌*◌, ◌/◌, ◌%◌, ◌^◌, ◌<◌, ◌≤◌, Bool, true, false, not, ◌&&◌, ◌||◌, eqb, List, [], ◌∷◌, length, get_or, sym, refl, ap, ◌∙◌, subst, ap₂, ⊎_elim, mod-lt, mod-eq_of_lt, div-add-mod', arith, pow_pos}
 use native.Mathlib.Nat.{div-eq_of_lt, zero-div}
 use lib.Bits.{bit_and, and_lt, and_zero_l}
 use Rattle.std.specs.Bool.{MatchBool}
@@ -9,10 +9,10 @@ use Rattle.std.proofs.lemmas.Slice.Zip.{get_or-zip, length-zip}
 use Rattle.std.proofs.lemmas.Nat.{div-mul-add, mod-mul-add}
 use Rattle.std.proofs.lemmas.Nat.Bits.{bit_at_above}
 use Rattle.std.proofs.lemmas.Bool.{cases_lt, cases_Bool, true≢false, false≢true}
-use Rattle.terms.specs.Sets.{holds, Own}
+use Rattle.terms.specs.Sets.{holds}
 use Rattle.terms.specs.Values.{set_on}
 use Rattle.terms.specs.Counts.{net_set}
-use Rattle.terms.proofs.Changes.{bit, minus_at, own_of}
+use Rattle.terms.proofs.Changes.{bit, minus_at}
 use Rattle.terms.proofs.Members.{same_bits, zero_bit}
 use Rattle.terms.proofs.Values.{every_all, every_one}
 

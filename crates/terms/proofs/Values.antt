@@ -5,7 +5,7 @@ use Rattle.std.proofs.Math.Bool.{and-true}
 use Rattle.std.proofs.lemmas.Bool.{and_parts, cases_eq, eqb-true, eq-eqb, ne_eqb}
 use Rattle.terms.specs.Nets.{net_model}
 use Rattle.terms.specs.Sets.{holds, Within}
-use Rattle.terms.specs.Terms.{added, Codes, Monos}
+use Rattle.terms.specs.Terms.{added, Monos}
 use Rattle.terms.specs.Values.{every, set_on, value_under}
 use Rattle.terms.specs.declared.Term.{Term}
 use Rattle.terms.specs.declared.nets.NetSet.{NetSet}

@@ -1,11 +1,10 @@
 -- The two kinds keep the laws. Assumes nothing.
-use Rattle.std.specs.Prelude.{◌≡◌, ℕ, zero, suc, ◌+◌, ◌-◌, ◌<◌, ◌≤◌, true, ltb, List, [], ◌∷◌, reverse, length, take, ◌≢◌, bit_or, nat_le, nat_lt, slice_index, refl}
-use Rattle.std.proofs.Common.{sym, ap, ap₂, subst, ◌∙◌, le_of_suc-le-suc, not-suc-le-zero, arith}
+use Rattle.std.specs.Prelude.{◌≡◌, ℕ, zero, suc, ◌<◌, ◌≤◌, true, List, [], ◌∷◌, reverse, length, bit_or, nat_le, slice_index, refl}
+use Rattle.std.proofs.Common.{sym, ap, ◌∙◌, le_of_suc-le-suc, not-suc-le-zero, arith}
 use Rattle.std.proofs.lemmas.Bool.{leb-true, and_parts, false≢true}
-use Rattle.std.proofs.lemmas.List.{get_or-reverse, length-reverse, take_more_same}
 use Rattle.terms.specs.Kind.{KindLaws}
 use Rattle.terms.specs.Counts.{net_set}
-use Rattle.terms.specs.Numbers.{lex, paired, inside}
+use Rattle.terms.specs.Numbers.{paired, inside}
 use Rattle.terms.specs.Nets.{net_model, full_words}
 use Rattle.terms.specs.Exps.{joined, exp_model}
 use Rattle.terms.specs.NumbersLemmas.{lex_irrefl, lex_trans, lex_total, reversed_same, AllJoin, zeros, zeros_inside, paired_inside, paired_unit, paired_comm, paired_assoc, or_joins, joined_joins}

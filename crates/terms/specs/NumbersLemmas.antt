@@ -1,29 +1,21 @@
 -- The laws of lists of numbers as monomials. Assumes nothing.
-use Rattle.std.specs.Prelude.{◌≡◌, ℕ, zero, suc, ◌+◌, ◌-◌, ◌/◌, ◌%◌, ◌^◌, ◌<◌, ◌≤◌, min, max, true, false, ◌⊎◌, List, [], ◌∷◌, reverse, length, take, ◌≢◌, bit_or, nat_le, nat_lt, slice_index, refl}
-use Rattle.std.proofs.Common.{sym, ap, ap₂, ◌∙◌, inl, inr, ⊎_elim, zero-le, le_of_suc-le-suc, not-suc-le-zero, mod-lt, arith}
+use Rattle.std.specs.Prelude.{◌≡◌, ℕ, ◌+◌, ◌-◌, ◌^◌, ◌<◌, ◌≤◌, min, max, true, false, ◌⊎◌, List, [], ◌∷◌, reverse, bit_or, nat_le, nat_lt, refl}
+use Rattle.std.proofs.Common.{sym, ap, ap₂, ◌∙◌, inl, inr, ⊎_elim, zero-le, arith}
 use Rattle.std.proofs.Math.Nat.{min-eq_left, min-le_right}
 use Rattle.std.proofs.lemmas.Nat.{or_comm, or_lt}
 use Rattle.std.proofs.lemmas.Nat.Bits.{bit_at_or, same_from_bits}
 use Rattle.std.specs.Int.{bit_at}
 use Rattle.std.specs.Int.Bits.{or_zero_l}
+use Rattle.std.proofs.lemmas.Bool.Decides.{nat_tests}
 use Rattle.std.proofs.lemmas.List.{reverse-reverse}
-use Rattle.std.proofs.lemmas.Bool.{cases_order, cases_lt, lt-ltb, le-ltb, le-leb, leb-true, and_parts, and_from, cond-true, cond-false, true≢false}
+use Rattle.std.proofs.lemmas.Bool.{cases_lt, lt-ltb, le-ltb, le-leb, leb-true, and_parts, and_from, cond-true, cond-false, true≢false}
 use Rattle.terms.specs.Numbers.{lex, paired, inside}
 use Rattle.terms.specs.Exps.{capped, joined}
 
 -- ---- the order
-pub lex_lower : (a b : ℕ) (aa bs : List ℕ) → a < b → lex (a ∷ aa) (b ∷ bs) ≡ true
-lex_lower a b aa bs h = rw (lt-ltb a b h) refl
-
-pub lex_higher : (a b : ℕ) (aa bs : List ℕ) → b < a → lex (a ∷ aa) (b ∷ bs) ≡ false
-lex_higher a b aa bs h = rw (le-ltb a b (let g : b ≤ a = omega arith in g)) (rw (lt-ltb b a h) refl)
-
-pub lex_level : (a b : ℕ) (aa bs : List ℕ) → a ≡ b → lex (a ∷ aa) (b ∷ bs) ≡ lex aa bs
-lex_level a b aa bs h = rw (le-ltb a b (let g : b ≤ a = omega arith in g)) (rw (le-ltb b a (let g : a ≤ b = omega arith in g)) refl)
-
 pub lex_irrefl : (aa : List ℕ) → lex aa aa ≡ false
 lex_irrefl [] = refl
-lex_irrefl (a ∷ aa) = lex_level a a aa aa refl ∙ lex_irrefl aa
+lex_irrefl (a ∷ aa) = let h = lex_irrefl aa in grind (arith, nat_tests)
 
 never : {A : Type 0} → true ≡ false → A
 never e = absurd (true≢false e)
@@ -32,10 +24,7 @@ pub lex_total : (aa bs : List ℕ) → lex aa bs ≡ false → lex bs aa ≡ fal
 lex_total [] [] e f = refl
 lex_total [] (b ∷ bs) e f = never e
 lex_total (a ∷ aa) [] e f = never f
-lex_total (a ∷ aa) (b ∷ bs) e f =
-    ⊎_elim (λ q. ap₂ (λ x xs. x ∷ xs) q (lex_total aa bs (sym (lex_level a b aa bs q) ∙ e) (sym (lex_level b a bs aa (sym q)) ∙ f)))
-    (⊎_elim (λ l. never (sym (lex_lower a b aa bs l) ∙ e)) (λ l. never (sym (lex_lower b a bs aa l) ∙ f)))
-    (cases_order a b)
+lex_total (a ∷ aa) (b ∷ bs) e f = let h = lex_total aa bs in grind (arith, nat_tests)
 
 pub lex_trans : (aa bs cs : List ℕ) → lex aa bs ≡ true → lex bs cs ≡ true → lex aa cs ≡ true
 lex_trans [] [] cs e f = never (sym e)
@@ -43,16 +32,7 @@ lex_trans [] (b ∷ bs) [] e f = never (sym f)
 lex_trans [] (b ∷ bs) (c ∷ cs) e f = refl
 lex_trans (a ∷ aa) [] cs e f = never (sym e)
 lex_trans (a ∷ aa) (b ∷ bs) [] e f = never (sym f)
-lex_trans (a ∷ aa) (b ∷ bs) (c ∷ cs) e f =
-    ⊎_elim
-    (λ q. ⊎_elim
-    (λ r. lex_level a c aa cs (q ∙ r) ∙ lex_trans aa bs cs (sym (lex_level a b aa bs q) ∙ e) (sym (lex_level b c bs cs r) ∙ f))
-    (⊎_elim (λ l. lex_lower a c aa cs (omega arith)) (λ l. never (sym f ∙ lex_higher b c bs cs l)))
-    (cases_order b c))
-    (⊎_elim
-    (λ l. ⊎_elim (λ r. lex_lower a c aa cs (omega arith)) (⊎_elim (λ r. lex_lower a c aa cs (omega arith)) (λ r. never (sym f ∙ lex_higher b c bs cs r))) (cases_order b c))
-    (λ l. never (sym e ∙ lex_higher a b aa bs l)))
-    (cases_order a b)
+lex_trans (a ∷ aa) (b ∷ bs) (c ∷ cs) e f = let h = lex_trans aa bs cs in grind (arith, nat_tests)
 
 pub reversed_same : (aa bs : List ℕ) → reverse aa ≡ reverse bs → aa ≡ bs
 reversed_same aa bs e = sym (reverse-reverse aa) ∙ ap reverse e ∙ reverse-reverse bs

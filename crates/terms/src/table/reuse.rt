@@ -1,6 +1,6 @@
 // A table used again: only the rows that its terms have are written.
-ghost use Rattle.std.specs.Prelude.{◌≡◌, ◌-◌, ◌<◌, ◌≤◌, ◌++◌, length, take, replicate, Ok, Err};
-ghost use Rattle.terms.specs.Terms.{Table, blank};
+ghost use Rattle.std.specs.Prelude.{◌≡◌, ◌<◌, replicate, Ok, Err};
+ghost use Rattle.terms.specs.Terms.{blank};
 ghost use Rattle.terms.specs.Lent.{live, capacity, Sound};
 
 use super::{Full, TermTable, clear_rows};

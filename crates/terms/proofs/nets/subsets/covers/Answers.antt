@@ -1,4 +1,4 @@
-use Rattle.std.proofs.Common.{◌≡◌, ℕ, ◌^◌, ◌<◌, get_or, rules, tests}
+use Rattle.std.proofs.Common.{ℕ, ◌^◌, ◌<◌, get_or, rules, tests}
 use Rattle.std.proofs.lemmas.Iterator.{YieldsList-from_slice, YieldsList-from_zip, cases_from_all}
 use Rattle.terms.proofs.Subsets.{Covered, subset_tested}
 use Rattle.terms.proofs.nets.subsets.covers.Goals as goal

@@ -1,17 +1,14 @@
-use Rattle.std.proofs.Common.{sym, refl, ap, ◌∙◌, inl, inr}
+use Rattle.std.proofs.Common.{sym, refl, ap, ◌∙◌, inl, inr, arith}
 use Rattle.terms.specs.Terms.{place}
 use Rattle.terms.proofs.Adding.{p_le, opened_added, closed_added, set_added, refused}
 use Rattle.terms.proofs.table.TermTable.add.Goals as goal
 use Rattle.terms.proofs.table.TermTable.add.Goals.{else-at-len-via-then-at-len+else-not-less, else-at-len-via-else-at-len}
 
-pub open_row-requires : goal.open_row-requires
-open_row-requires g c =
+pub open_row-requires-clause-place : goal.open_row-requires-clause-place
+open_row-requires-clause-place g c =
     let k = g.K.Kind.model c.args.kind.now in
     let e = c.position-at.ensures ∙ ap (place k c.args.mono) c.terms.ensures in
-    record {
-      place = p_le k (g.met.K.Kind.holds c.args.kind.now) c.args.self.now c.requires c.args.code c.args.mono c.if-code-eq0.false c.position-at.result e;
-      room = c.if-len-self.true;
-    }
+    p_le k (g.met.K.Kind.holds c.args.kind.now) c.args.self.now c.requires c.args.code c.args.mono c.if-code-eq0.false c.position-at.result e
 
 pub returns-then-sum-eq0-clause-sum : goal.returns-then-sum-eq0-clause-sum
 returns-then-sum-eq0-clause-sum g c =
@@ -32,7 +29,7 @@ returns-then-len-self-clause-sum g c =
     let k = g.K.Kind.model c.args.kind.now in
     let e = c.position-at.ensures ∙ ap (place k c.args.mono) c.terms.ensures in
     opened_added k (g.met.K.Kind.holds c.args.kind.now) c.args.self.now c.requires c.args.code c.args.mono c.if-code-eq0.false c.position-at.result e
-    _ c.if-len-self.true refl c.open_row.ensures
+    _ (omega arith) refl c.open_row.ensures
     (elim c.else-at-len.branch [ else-at-len-via-then-at-len+else-not-less w ↦ inr (w.index-self-at.result, w.if-at-len.true, sym w.if-not-less.ensures) | else-at-len-via-else-at-len w ↦ inl w.if-at-len.false ])
 
 pub returns-else-len-self-clause-sum : goal.returns-else-len-self-clause-sum
@@ -40,5 +37,5 @@ returns-else-len-self-clause-sum g c =
     let k = g.K.Kind.model c.args.kind.now in
     let e = c.position-at.ensures ∙ ap (place k c.args.mono) c.terms.ensures in
     refused k (g.met.K.Kind.holds c.args.kind.now) c.args.self.now c.requires c.args.code c.args.mono c.if-code-eq0.false c.position-at.result e
-    c.if-len-self.false
+    (omega arith)
     (elim c.else-at-len.branch [ else-at-len-via-then-at-len+else-not-less w ↦ inr (w.index-self-at.result, w.if-at-len.true, sym w.if-not-less.ensures) | else-at-len-via-else-at-len w ↦ inl w.if-at-len.false ])
