@@ -8,5 +8,5 @@ pub mod tables;
 
 pub use entries::Entry;
 pub use findings::Findings;
-pub use runs::audit;
+pub use runs::{audit, audit_in};
 pub use tables::LentTables;

@@ -5,8 +5,8 @@ ghost use Rattle.terms.specs.Terms.{blank};
 ghost use Rattle.cards.specs.Sums.{card_kind};
 ghost use Rattle.cards.specs.Working.{word_count};
 ghost use Rattle.ledger.specs.Rules.{filing, card_filing, carding};
-ghost use Rattle.audit.specs.Entries.{call_of, calls_of, named, AllFit};
-ghost use Rattle.audit.specs.Faithful.{Faithful};
+ghost use Rattle.audit.specs.Entries.{tables, call_of, calls_of, named, AllFit};
+ghost use Rattle.audit.specs.Faithful.{Faithful, lent};
 ghost use Rattle.audit.specs.LentTables.{at_hand, for_cards, SameTables};
 ghost use Rattle.audit.specs.Runs.{Steps, Runs};
 
@@ -16,7 +16,7 @@ use crate::tables::LentTables;
 use fault::Fault;
 use field::Field;
 use shelf::Shelf;
-use terms::nets::Nets;
+use terms::nets::{NetSet, Nets};
 use terms::{Term, clear_rows};
 
 // Files a netlist, with as many rows as are named, or as are at hand.
@@ -132,7 +132,7 @@ fn run_all<F: Field>(
 
 // Goes down a list of calls on a shelf just made, refused ones too; then compares drawers `a` and `b`, takes the value of `a` at the
 // words, and draws the cards of both. The tables are lent to every call, up to the number of rows that an entry names.
-pub fn audit<F: Field + Drop>(
+pub fn audit_in<F: Field + Drop>(
     field: F,
     n: usize,
     entries: &[Entry],
@@ -166,4 +166,41 @@ pub fn audit<F: Field + Drop>(
         left,
         right,
     }
+}
+
+// The same with the tables lent one by one, as parts of longer ones also: of a slice that stands in a struct a caller learns only its length afterwards,
+// where it is a part of another or a vector's.
+pub fn audit<F: Field + Drop>(
+    field: F,
+    n: usize,
+    entries: &[Entry],
+    a: usize,
+    b: usize,
+    words: [u16; 3],
+    work: &mut [Term<NetSet>],
+    bits_first: &mut [Term<NetSet>],
+    bits_second: &mut [Term<NetSet>],
+    first: &mut [Term<[u16; 3]>],
+    second: &mut [Term<[u16; 3]>],
+    left: &mut [Term<[u16; 3]>],
+    right: &mut [Term<[u16; 3]>],
+) -> Findings
+    ensures faithful { Faithful (F.model field) (word_count n) (calls_of (tables (length work.old) (length bits_first.old) (length bits_second.old) (length first.old) (length second.old) (length left.old)) entries.now) a b words (lent (length first.old) (length second.old) (length left.old) (length right.old)) result left.new right.new }
+    ensures named { AllFit (tables (length work.old) (length bits_first.old) (length bits_second.old) (length first.old) (length second.old) (length left.old)) entries.now → calls_of (tables (length work.old) (length bits_first.old) (length bits_second.old) (length first.old) (length second.old) (length left.old)) entries.now ≡ map named entries.now }
+    ensures work { work.new ≡ replicate (length work.old) (blank net_model) }
+    ensures bits1 { bits_first.new ≡ replicate (length bits_first.old) (blank net_model) }
+    ensures bits2 { bits_second.new ≡ replicate (length bits_second.old) (blank net_model) }
+    ensures first { first.new ≡ replicate (length first.old) (blank (card_kind (F.model field) (word_count n))) }
+    ensures second { second.new ≡ replicate (length second.old) (blank (card_kind (F.model field) (word_count n))) }
+{
+    let mut lent = LentTables {
+        work,
+        bits_first,
+        bits_second,
+        first,
+        second,
+        left,
+        right,
+    };
+    audit_in(field, n, entries, a, b, words, &mut lent)
 }

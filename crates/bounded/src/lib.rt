@@ -1,7 +1,7 @@
 // Lists of a bounded length, held in an array of their own, so that none can fail for want of memory.
 #![tactic(auto)]
 
-ghost use Rattle.std.specs.Prelude.{◌≡◌, ◌+◌, ◌<◌, ◌≤◌, [], ◌∷◌, ◌++◌, length, take};
+ghost use Rattle.std.specs.Prelude.{◌≡◌, ◌+◌, ◌<◌, ◌≤◌, [], ◌∷◌, ◌++◌, length, take, ⊤};
 
 use std::alloc::AllocError;
 
@@ -13,6 +13,10 @@ pub struct Bounded<T, const N: usize> {
 }
 
 impl<T: Copy, const N: usize> Clone for Bounded<T, N> {
+    ghost is_clone = { λ x y. y ≡ x };
+
+    ghost is_infallible = { λ _. ⊤ };
+
     fn clone(&self) -> Result<Self, AllocError> {
         Ok(*self)
     }

@@ -26,14 +26,22 @@ fn squares<F: Field>(field: &F, x: u16) -> [u16; 8]
     row
 }
 
-// Row i: code i, and its squares.
+// Row i, for each bit i of the field: code i, and its squares.
 fn rows_of_squares<F: Field>(field: &F, codes: [u16; 8]) -> [[u16; 8]; 8]
-    ensures { (i : ℕ) → i < 8 → slice_index codes i < size (F.model field.now) → Squares (F.model field.now) (slice_index codes i) (slice_index_or result i []) }
+    ensures { (i : ℕ) → i < (F.model field.now).width → slice_index codes i < size (F.model field.now) → Squares (F.model field.now) (slice_index codes i) (slice_index_or result i []) }
 {
-    codes.map(
-        |x| -> [u16; 8]
-            ensures { x < size (F.model field.entry.now) → Squares (F.model field.entry.now) x result }
-        { squares(field, x) },
+    let k = field.width() as usize;
+    array::from_fn(
+        |i| -> [u16; 8]
+            requires { i < 8 }
+            ensures { i < k → slice_index codes i < size (F.model field.entry.now) → Squares (F.model field.entry.now) (slice_index codes i) result }
+        {
+            if i < k {
+                squares(field, codes[i])
+            } else {
+                [0; 8]
+            }
+        },
     )
 }
 
@@ -59,28 +67,20 @@ fn sums_by<M: Copy, F: Fn(usize, usize) -> Term<M>>(
     make: F,
 ) -> [Term<M>; 192]
     requires some { 0 < width }
+    requires few { places * width ≤ 192 }
     requires callable { (p j : ℕ) → p < places → j < width → F.pre make p j }
     ensures made { (t : ℕ) → t < 192 → t < places * width → (x : Term M) → F.post make (t / width) (t % width) (slice_index_or result t x) }
     ensures rest { (t : ℕ) → t < 192 → places * width ≤ t → (x : Term M) → slice_index_or result t x ≡ term 0 unit }
 {
-    array::from_fn(
-        |t| -> Term<M>
-            requires some { 0 < width }
-            requires callable { t / width < places → F.pre make (t / width) (t % width) }
-            ensures made { t / width < places → F.post make (t / width) (t % width) result }
-            ensures rest { places ≤ t / width → result ≡ term 0 unit }
-        {
-            let place = t / width;
-            if place < places {
-                make(place, t % width)
-            } else {
-                Term {
-                    code: 0,
-                    mono: unit,
-                }
-            }
-        },
-    )
+    // An index: `array::from_fn` goes over all 192 and hands the array on, and costs twice as much; of a part, or of a range zipped with the array, the proof is no plainer.
+    let mut sums = [Term {
+        code: 0,
+        mono: unit,
+    }; 192];
+    for t in 0..places * width {
+        sums[t] = make(t / width, t % width);
+    }
+    sums
 }
 
 // The exponent row with `e` at word `w`.

@@ -21,6 +21,13 @@ use work::find_form;
 pub fn bit_form(net: &Netlist, rows: &mut [Term<NetSet>]) -> Result<usize, Fault>
     ensures { Answered (circuit net.now) (length rows.old) result rows.new }
 {
+    form_in(net, rows)
+}
+
+// The same. It is apart, so that what stands in a table on the rows is known of part of them too: a table made on a part tells its maker nothing of the rows.
+fn form_in(net: &Netlist, rows: &mut [Term<NetSet>]) -> Result<usize, Fault>
+    ensures { Answered (circuit net.now) (length rows.old) result rows.new }
+{
     let mut table = TermTable::new(&Nets, rows);
     find_form(net, &mut table)
 }

@@ -9,7 +9,7 @@ ghost use Rattle.job.specs.Printed.{Printed, shown_outcome};
 
 use crate::card::{Card, ROWS};
 use crate::open::{open, prepare};
-use audit::{Entry, Findings, LentTables, audit};
+use audit::{Entry, Findings, LentTables, audit_in};
 use bounded::Bounded;
 use cards::words::to_words;
 use fault::Fault;
@@ -56,7 +56,7 @@ fn file_and_draw(
         left: rows,
         right: &mut [],
     };
-    audit(field, words, &entries, 0, 15, [0; 3], &mut tables)
+    audit_in(field, words, &entries, 0, 15, [0; 3], &mut tables)
 }
 
 // The card of a job, or why there is none: the netlist is worked into bits, and these into words, with no shelf.

@@ -1,6 +1,6 @@
 -- The laws of lists of numbers as monomials. Assumes nothing.
-use Rattle.std.specs.Prelude.{◌≡◌, ℕ, ◌+◌, ◌-◌, ◌^◌, ◌<◌, ◌≤◌, min, max, true, false, ◌⊎◌, List, [], ◌∷◌, reverse, bit_or, nat_le, nat_lt, refl}
-use Rattle.std.proofs.Common.{sym, ap, ap₂, ◌∙◌, inl, inr, ⊎_elim, zero-le, arith}
+use Rattle.std.specs.Prelude.{◌≡◌, ℕ, zero, suc, ◌+◌, ◌-◌, ◌^◌, ◌<◌, ◌≤◌, min, max, true, false, ◌⊎◌, List, [], ◌∷◌, reverse, length, take, ◌≢◌, bit_or, nat_le, nat_lt, slice_index, refl}
+use Rattle.std.proofs.Common.{sym, ap, ap₂, ◌∙◌, inl, inr, ⊎_elim, zero-le, le_of_suc-le-suc, not-suc-le-zero, arith}
 use Rattle.std.proofs.Math.Nat.{min-eq_left, min-le_right}
 use Rattle.std.proofs.lemmas.Nat.{or_comm, or_lt}
 use Rattle.std.proofs.lemmas.Nat.Bits.{bit_at_or, same_from_bits}
@@ -8,11 +8,20 @@ use Rattle.std.specs.Int.{bit_at}
 use Rattle.std.specs.Int.Bits.{or_zero_l}
 use Rattle.std.proofs.lemmas.Bool.Decides.{nat_tests}
 use Rattle.std.proofs.lemmas.List.{reverse-reverse}
-use Rattle.std.proofs.lemmas.Bool.{cases_lt, lt-ltb, le-ltb, le-leb, leb-true, and_parts, and_from, cond-true, cond-false, true≢false}
+use Rattle.std.proofs.lemmas.Bool.{cases_order, cases_lt, lt-ltb, le-ltb, le-leb, leb-true, and_parts, and_from, cond-true, cond-false, true≢false}
 use Rattle.terms.specs.Numbers.{lex, paired, inside}
 use Rattle.terms.specs.Exps.{capped, joined}
 
 -- ---- the order
+pub lex_lower : (a b : ℕ) (aa bs : List ℕ) → a < b → lex (a ∷ aa) (b ∷ bs) ≡ true
+lex_lower a b aa bs h = rw (lt-ltb a b h) refl
+
+pub lex_higher : (a b : ℕ) (aa bs : List ℕ) → b < a → lex (a ∷ aa) (b ∷ bs) ≡ false
+lex_higher a b aa bs h = rw (le-ltb a b (let g : b ≤ a = omega arith in g)) (rw (lt-ltb b a h) refl)
+
+pub lex_level : (a b : ℕ) (aa bs : List ℕ) → a ≡ b → lex (a ∷ aa) (b ∷ bs) ≡ lex aa bs
+lex_level a b aa bs h = rw (le-ltb a b (let g : b ≤ a = omega arith in g)) (rw (le-ltb b a (let g : a ≤ b = omega arith in g)) refl)
+
 pub lex_irrefl : (aa : List ℕ) → lex aa aa ≡ false
 lex_irrefl [] = refl
 lex_irrefl (a ∷ aa) = let h = lex_irrefl aa in grind (arith, nat_tests)
@@ -33,6 +42,23 @@ lex_trans [] (b ∷ bs) (c ∷ cs) e f = refl
 lex_trans (a ∷ aa) [] cs e f = never (sym e)
 lex_trans (a ∷ aa) (b ∷ bs) [] e f = never (sym f)
 lex_trans (a ∷ aa) (b ∷ bs) (c ∷ cs) e f = let h = lex_trans aa bs cs in grind (arith, nat_tests)
+
+first : List ℕ → ℕ
+first [] = 0
+first (x ∷ xs) = x
+
+rest : List ℕ → List ℕ
+rest [] = []
+rest (x ∷ xs) = xs
+
+-- the place that decides
+pub lex_at : (n : ℕ) (aa bs : List ℕ) → n < length aa → n < length bs → take n aa ≡ take n bs → (slice_index aa n ≢ slice_index bs n) → lex aa bs ≡ nat_lt (slice_index aa n) (slice_index bs n)
+unfolding first rest
+lex_at n [] bs h i e d = absurd (not-suc-le-zero h)
+lex_at n (a ∷ aa) [] h i e d = absurd (not-suc-le-zero i)
+lex_at zero (a ∷ aa) (b ∷ bs) h i e d =
+    ⊎_elim (λ q. absurd (d q)) (⊎_elim (λ l. lex_lower a b aa bs l ∙ sym (lt-ltb a b l)) (λ l. lex_higher a b aa bs l ∙ sym (le-ltb a b (let g : b ≤ a = omega arith in g)))) (cases_order a b)
+lex_at (suc n) (a ∷ aa) (b ∷ bs) h i e d = lex_level a b aa bs (ap first e) ∙ lex_at n aa bs (le_of_suc-le-suc h) (le_of_suc-le-suc i) (ap rest e) d
 
 pub reversed_same : (aa bs : List ℕ) → reverse aa ≡ reverse bs → aa ≡ bs
 reversed_same aa bs e = sym (reverse-reverse aa) ∙ ap reverse e ∙ reverse-reverse bs

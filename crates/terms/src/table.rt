@@ -48,14 +48,30 @@ fn close_row<M: Copy>(rows: &mut [Term<M>], at: usize, len: usize, z: Term<M>)
     rows[len - 1] = z;
 }
 
-// The same at the first row: `rotate_left` moves a long run in parts, which costs less.
-fn drop_first<M: Copy>(rows: &mut [Term<M>], len: usize, z: Term<M>)
+// The same at the first row of a long run: `rotate_left` moves it in parts, which costs less.
+fn drop_of_many<M: Copy>(rows: &mut [Term<M>], len: usize, z: Term<M>)
     requires some { 0 < len }
     requires within { len ≤ length rows.old }
     ensures { rows.new ≡ between 1 len rows.old ++ (z ∷ drop len rows.old) }
 {
     rows[..len].rotate_left(1);
     rows[len - 1] = z;
+}
+
+// The most rows that are moved at once.
+const LONG: usize = 200;
+
+// The same at the first row.
+fn drop_first<M: Copy>(rows: &mut [Term<M>], len: usize, z: Term<M>)
+    requires some { 0 < len }
+    requires within { len ≤ length rows.old }
+    ensures { rows.new ≡ between 1 len rows.old ++ (z ∷ drop len rows.old) }
+{
+    if len <= LONG {
+        close_row(rows, 0, len, z);
+    } else {
+        drop_of_many(rows, len, z);
+    }
 }
 
 // The row that stands where there is no term: code 0 and the unit.

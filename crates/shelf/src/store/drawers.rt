@@ -16,7 +16,7 @@ use terms::{Kind, Term};
 
 impl Drawer {
     // An empty drawer.
-    pub(super) fn empty() -> Self
+    pub fn empty() -> Self
         ensures { held result ≡ None }
     {
         Drawer { form: None }

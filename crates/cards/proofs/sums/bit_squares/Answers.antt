@@ -12,4 +12,4 @@ returns g c = λ i j h k.
     let l = g.met.F.Field.holds c.args.field.now in
     let small : i < 8 = omega (arith, l.wide) in
     let e = made_same _ (λ i y. i < 8 → y ≡ 2 ^ i) _ (λ i y q u h. search (rules, one_bit)) (λ i y q u. search rules) c.from_fn.result 8 c.from_fn.ensures.items i small 0 small in
-    subst (λ (x : ℕ). x < size m → Squares m x (slice_index_or c.rows_of_squares.result i [])) e (c.rows_of_squares.ensures i small) (pow-lt h) j k
+    subst (λ (x : ℕ). x < size m → Squares m x (slice_index_or c.rows_of_squares.result i [])) e (c.rows_of_squares.ensures i h) (pow-lt h) j k

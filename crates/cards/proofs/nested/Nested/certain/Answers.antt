@@ -1,6 +1,5 @@
-use Rattle.std.proofs.Common.{ℕ, ◌*◌, ◌^◌, ◌≤◌, ◌∙◌, subst, arith, pow_mono}
+use Rattle.std.proofs.Common.{ℕ, ◌^◌, ◌≤◌, subst, arith, pow_mono}
 use Rattle.algebra.specs.Field.{size}
-use Rattle.cards.specs.Shapes.{ShapesFit}
 use Rattle.cards.proofs.CardLaw.{enough}
 use Rattle.cards.proofs.Fitting.{shapes_finish}
 use Rattle.cards.proofs.nested.Nested.certain.Goals as goal

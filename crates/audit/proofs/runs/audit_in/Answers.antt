@@ -1,7 +1,7 @@
 use Rattle.std.proofs.Common.{◌∙◌}
 use Rattle.audit.specs.LentTables.{for_cards}
 use Rattle.audit.proofs.Law.{audited, relent, calls_named}
-use Rattle.audit.proofs.runs.audit.Goals as goal
+use Rattle.audit.proofs.runs.audit_in.Goals as goal
 
 pub returns-clause-faithful : goal.returns-clause-faithful
 returns-clause-faithful g c =
